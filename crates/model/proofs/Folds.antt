@@ -1,0 +1,181 @@
+-- Laws of the folds over lists and over the numbers below a bound. Assumes nothing.
+use Prim.Native.Nat.{ℕ, zero, suc, _+_, _≤_, _<_, min}
+use mathlib.Core.Path.{_≡_, refl, sym, ap, _∙_, subst}
+use mathlib.Core.Logic.{_⊎_, inl, inr, ⊎-elim}
+use mathlib.Core.Bool.{Bool, true, false, cond, true≢false, false≢true}
+use mathlib.Core.List.{List, [], _∷_, _++_, map}
+use native.Mathlib.Nat.{le-of-suc-le-suc, not-suc-le-zero}
+use native.Mathlib.Numerals.{lt-of-le-of-ne}
+use native.Mathlib.Decide.{ℕ-discrete}
+use native.Mathlib.Omega.{arith}
+use lib.Dec.{leb, eqb}
+use lib.ListN.{getD, length, set, replicate}
+use lib.Seq.{getD-set-same, getD-set-other}
+use borrow.Author.Tests.{leb-true, leb-false, eqb-true, eq-eqb}
+use Rattle.model.specs.Folds.{ind, count, every, member, largest, all, Limit, infinite, finite, smaller, smallest}
+use Rattle.model.proofs.Booleans.{cases, and-left, and-right, and-both, or-left, or-right, or-cases, ind-le}
+
+-- ---- elements
+
+pub member-here : (x : ℕ) (l : List ℕ) → member x (x ∷ l) ≡ true
+unfolding member
+member-here x l = or-left (eqb x x) (member x l) (eq-eqb x x refl)
+
+pub member-there : (w x : ℕ) (l : List ℕ) → member w l ≡ true → member w (x ∷ l) ≡ true
+unfolding member
+member-there w x l e = or-right (eqb w x) (member w l) e
+
+pub member-cases : (w x : ℕ) (l : List ℕ) → member w (x ∷ l) ≡ true → (w ≡ x) ⊎ (member w l ≡ true)
+unfolding member
+member-cases w x l e = ⊎-elim (λ q. inl (eqb-true w x q)) (λ q. inr q) (or-cases (eqb w x) (member w l) e)
+
+pub not-in-nil : (w : ℕ) → member w [] ≡ true → ⊥
+unfolding member
+not-in-nil w e = false≢true e
+
+pub member-append : (w : ℕ) (l r : List ℕ) → member w (l ++ r) ≡ true → (member w l ≡ true) ⊎ (member w r ≡ true)
+member-append w [] r e = inr e
+member-append w (x ∷ l) r e = go (member-cases w x (l ++ r) e) (λ q. member-append w l r q)
+  where
+    go : (w ≡ x) ⊎ (member w (l ++ r) ≡ true) → (member w (l ++ r) ≡ true → (member w l ≡ true) ⊎ (member w r ≡ true)) → (member w (x ∷ l) ≡ true) ⊎ (member w r ≡ true)
+    go (inl q) f = inl (rw q (member-here x l))
+    go (inr q) f = ⊎-elim (λ h. inl (member-there w x l h)) (λ h. inr h) (f q)
+
+pub append-member : (w : ℕ) (l r : List ℕ) → member w r ≡ true → member w (l ++ r) ≡ true
+append-member w [] r e = e
+append-member w (x ∷ l) r e = member-there w x (l ++ r) (append-member w l r e)
+
+-- ---- every
+
+pub every-out : (p : ℕ → Bool) (l : List ℕ) → every p l ≡ true → (w : ℕ) → member w l ≡ true → p w ≡ true
+unfolding every
+every-out p [] e w i = absurd (not-in-nil w i)
+every-out p (x ∷ xs) e w i =
+    ⊎-elim (λ q. rw q (and-left (p x) (every p xs) e)) (λ q. every-out p xs (and-right (p x) (every p xs) e) w q) (member-cases w x xs i)
+
+pub every-in : (p : ℕ → Bool) (l : List ℕ) → ((w : ℕ) → member w l ≡ true → p w ≡ true) → every p l ≡ true
+unfolding every
+every-in p [] h = refl
+every-in p (x ∷ xs) h = and-both (p x) (every p xs) (h x (member-here x xs)) (every-in p xs (λ w i. h w (member-there w x xs i)))
+
+-- ---- the largest
+
+pub largest-le : (p : ℕ → Bool) (f : ℕ → ℕ) (l : List ℕ) (b : ℕ) → ((w : ℕ) → member w l ≡ true → f w ≤ b) → largest p f l ≤ b
+unfolding largest
+largest-le p f [] b h = omega arith
+largest-le p f (x ∷ xs) b h = omega (arith, go (p x), largest-le p f xs b (λ w i. h w (member-there w x xs i)))
+  where
+    go : (c : Bool) → cond c (f x) 0 ≤ b
+    go true = h x (member-here x xs)
+    go false = omega arith
+
+pub le-largest : (p : ℕ → Bool) (f : ℕ → ℕ) (l : List ℕ) (w : ℕ) → member w l ≡ true → p w ≡ true → f w ≤ largest p f l
+unfolding largest
+le-largest p f [] w i e = absurd (not-in-nil w i)
+le-largest p f (x ∷ xs) w i e =
+    ⊎-elim (λ q. omega (arith, ap f q, ap (λ (c : Bool). cond c (f x) 0) (ap p (sym q) ∙ e))) (λ q. omega (arith, le-largest p f xs w q e)) (member-cases w x xs i)
+
+pub at-largest : {A : Type 0} (f : A → ℕ) (l : List A) (k : ℕ) (d : A) → f d ≡ 0 → f (getD l k d) ≤ largest all f l
+unfolding largest
+at-largest f [] k d e = omega (arith, e)
+at-largest f (x ∷ xs) zero d e = omega arith
+at-largest f (x ∷ xs) (suc k) d e = omega (arith, at-largest f xs k d e)
+
+-- ---- the smallest
+
+-- a finite limit is attained by a number that passes
+abbrev pub Attained : (ℕ → Bool) → (ℕ → ℕ) → ℕ → Limit → Type 0
+Attained p f n infinite = Unit {0}
+Attained p f n (finite x) = (j : ℕ) × (j < n) × (p j ≡ true) × (f j ≤ x)
+
+attained-more : (p : ℕ → Bool) (f : ℕ → ℕ) (n : ℕ) (l : Limit) → Attained p f n l → Attained p f (suc n) l
+attained-more p f n infinite w = tt
+attained-more p f n (finite x) w = (w .0, omega (arith, w .1), w .2, w .3)
+
+attained-new : (p : ℕ → Bool) (f : ℕ → ℕ) (n : ℕ) (l : Limit) → p n ≡ true → Attained p f n l → Attained p f (suc n) (smaller (f n) l)
+attained-new p f n infinite e w = (n, omega arith, e, omega arith)
+attained-new p f n (finite y) e w = go (cases (leb (f n) y))
+  where
+    go : (leb (f n) y ≡ true) ⊎ (leb (f n) y ≡ false) → Attained p f (suc n) (finite (min (f n) y))
+    go (inl q) = (n, omega arith, e, omega (arith, leb-true (f n) y q))
+    go (inr q) = (w .0, omega (arith, w .1), w .2, omega (arith, leb-false (f n) y q, w .3))
+
+pub smallest-attained : (p : ℕ → Bool) (f : ℕ → ℕ) (n : ℕ) → Attained p f n (smallest p f n)
+unfolding smallest
+smallest-attained p f zero = tt
+smallest-attained p f (suc n) = go (p n) refl (smallest-attained p f n)
+  where
+    go : (b : Bool) → p n ≡ b → Attained p f n (smallest p f n) → Attained p f (suc n) (cond b (smaller (f n) (smallest p f n)) (smallest p f n))
+    go true e w = attained-new p f n (smallest p f n) e w
+    go false e w = attained-more p f n (smallest p f n) w
+
+abbrev pub IsFinite : Limit → Type 0
+IsFinite infinite = ⊥
+IsFinite (finite x) = Unit {0}
+
+smaller-finite : (x : ℕ) (l : Limit) → IsFinite (smaller x l)
+smaller-finite x infinite = tt
+smaller-finite x (finite y) = tt
+
+pub smallest-finite : (p : ℕ → Bool) (f : ℕ → ℕ) (n i : ℕ) → i < n → p i ≡ true → IsFinite (smallest p f n)
+unfolding smallest
+smallest-finite p f zero i h e = absurd (not-suc-le-zero h)
+smallest-finite p f (suc n) i h e = go (p n) refl (λ h′. smallest-finite p f n i h′ e)
+  where
+    go : (b : Bool) → p n ≡ b → (i < n → IsFinite (smallest p f n)) → IsFinite (cond b (smaller (f n) (smallest p f n)) (smallest p f n))
+    go true q r = smaller-finite (f n) (smallest p f n)
+    go false q r = r (lt-of-le-of-ne (le-of-suc-le-suc h) (λ d. true≢false (sym e ∙ ap p d ∙ q)))
+
+-- ---- counts
+
+module _ {A : Type 0} where
+  pub count-set : (p : A → Bool) (l : List A) (i : ℕ) (a d : A) → i < length l → count p (set l i a) + ind (p (getD l i d)) ≡ count p l + ind (p a)
+  unfolding count
+  count-set p [] i a d h = absurd (not-suc-le-zero h)
+  count-set p (x ∷ xs) zero a d h = omega arith
+  count-set p (x ∷ xs) (suc i) a d h = omega (arith, count-set p xs i a d (le-of-suc-le-suc h))
+
+  pub count-mono : (p q : A → Bool) (l : List A) → ((a : A) → ind (p a) ≤ ind (q a)) → count p l ≤ count q l
+  unfolding count
+  count-mono p q [] h = omega arith
+  count-mono p q (x ∷ xs) h = omega (arith, h x, count-mono p q xs h)
+
+  pub count-length : (p : A → Bool) (l : List A) → count p l ≤ length l
+  unfolding count
+  count-length p [] = omega arith
+  count-length p (x ∷ xs) = omega (arith, ind-le (p x), count-length p xs)
+
+  pub count-below : (p : A → Bool) (l : List A) (i : ℕ) (d : A) → i < length l → p (getD l i d) ≡ false → count p l < length l
+  unfolding count
+  count-below p [] i d h e = absurd (not-suc-le-zero h)
+  count-below p (x ∷ xs) zero d h e = omega (arith, ap ind e, count-length p xs)
+  count-below p (x ∷ xs) (suc i) d h e = omega (arith, ind-le (p x), count-below p xs i d (le-of-suc-le-suc h) e)
+
+  pub count-none : (p : A → Bool) (n : ℕ) (a : A) → p a ≡ false → count p (replicate n a) ≡ 0
+  unfolding count
+  count-none p zero a e = refl
+  count-none p (suc n) a e = omega (arith, ap ind e, count-none p n a e)
+
+  -- ---- stores
+
+  -- what holds at each place, and of what is stored, holds at each place after the store
+  pub set-each : (P : ℕ → A → Type 0) (l : List A) (i : ℕ) (a d : A) → i < length l → ((k : ℕ) → P k (getD l k d)) → P i a → (k : ℕ) → P k (getD (set l i a) k d)
+  set-each P l i a d h f x k = go (ℕ-discrete k i)
+    where
+      go : Dec (k ≡ i) → P k (getD (set l i a) k d)
+      go (yes e) = rw (e, getD-set-same l i a d h) x
+      go (no e) = rw (getD-set-other l i k a d e) (f k)
+
+  pub getD-same : (n k : ℕ) (a : A) → getD (replicate n a) k a ≡ a
+  getD-same zero k a = refl
+  getD-same (suc n) zero a = refl
+  getD-same (suc n) (suc k) a = getD-same n k a
+
+-- ---- numbers below a bound
+
+pub below-suc : (P : ℕ → Type 0) (n : ℕ) → ((j : ℕ) → j < n → P j) → P n → (j : ℕ) → j < suc n → P j
+below-suc P n f x j h = go (ℕ-discrete j n)
+  where
+    go : Dec (j ≡ n) → P j
+    go (yes e) = subst P (sym e) x
+    go (no d) = f j (lt-of-le-of-ne (le-of-suc-le-suc h) d)

@@ -1,0 +1,352 @@
+-- The exploration level by level: an induction principle of the analysis, and what an accepting one tells of every edge. Assumes nothing.
+use Prim.Native.Nat.{ℕ, zero, suc, _≤_, _<_, zero-le}
+use mathlib.Core.Path.{_≡_, refl, sym, _∙_, subst}
+use mathlib.Core.Logic.{inl}
+use mathlib.Core.Bool.{Bool, true, false, cond}
+use mathlib.Core.List.{List, [], _∷_}
+use native.Mathlib.Nat.{le-antisymm, le-of-suc-le-suc, not-suc-le-zero}
+use native.Mathlib.Numerals.{lt-of-le-of-ne}
+use native.Mathlib.Decide.{ℕ-discrete}
+use native.Mathlib.Omega.{arith}
+use lib.Dec.{ltb}
+use lib.ListN.{getD, length, replicate, length-set, length-replicate}
+use lib.Seq.{getD-set-same}
+use borrow.Author.Tests.{ltb-false}
+use Rattle.model.specs.Jobs.{Job, job}
+use Rattle.model.specs.States.{Range, empty, range, State, level, initial}
+use Rattle.model.specs.Edges.{eligible, earliestFinish, latestFinish, successor}
+use Rattle.model.specs.Exploration.{hull, mergeable, merge, stored, Exploration, going, full, miss, limited, observed, addEdge, tryJob, tryJobs, tryStates, counted, nextLevel, explored}
+use Rattle.model.proofs.Booleans.{clash}
+use Rattle.model.proofs.Folds.{set-each}
+use Rattle.model.proofs.Enclosure.{All, all-map, Wider, Encloses, encloses-refl, Shaped, initial-shaped, successor-shaped, merge-shaped, Enclosing, stored-encloses, stored-keeps}
+
+-- what each step keeps holds from k up
+pub climb : (P : ℕ → Type 0) → ((n : ℕ) → P n → P (suc n)) → (k n : ℕ) → k ≤ n → P k → P n
+climb P s k zero h p = subst P (le-antisymm h zero-le) p
+climb P s k (suc n) h p = go (ℕ-discrete k (suc n)) (λ h′. s n (climb P s k n h′ p))
+  where
+    go : Dec (k ≡ suc n) → (k ≤ n → P (suc n)) → P (suc n)
+    go (yes e) r = subst P e p
+    go (no d) r = r (le-of-suc-le-suc (lt-of-le-of-ne h d))
+
+-- of an exploration that goes on; of one that has stopped, nothing
+abbrev pub WhileGoing : (List State → List Range → Type 0) → Exploration → Type 0
+WhileGoing P (going l seen c) = P l seen
+WhileGoing P (full n) = Unit {0}
+WhileGoing P (miss i e f) = Unit {0}
+
+counted-keeps : (P : List State → List Range → Type 0) (x : Exploration) → WhileGoing P x → WhileGoing P (counted x)
+counted-keeps P (going l seen c) h = h
+counted-keeps P (full n) h = tt
+counted-keeps P (miss i e f) h = tt
+
+limited-keeps : (P : List State → List Range → Type 0) (cap : ℕ) (σ : State) (l : List State) (seen : List Range) (c : ℕ) → P l seen → WhileGoing P (limited cap σ l seen c)
+unfolding limited
+limited-keeps P cap σ l seen c p = go (ltb cap (length l))
+  where
+    go : (b : Bool) → WhileGoing P (cond b (full (level σ)) (going l seen c))
+    go true = tt
+    go false = p
+
+-- job i may start next in the state, and then finishes in time
+pub record Edge (js : List Job) (σ : State) (i : ℕ) : Type 0 where
+  pub inside : i < length js
+  pub starts : eligible js σ i ≡ true
+  pub timely : latestFinish js σ i ≤ job js i .deadline
+
+abbrev pub finishRange : List Job → State → ℕ → Range
+finishRange js σ i = range (earliestFinish js σ i) (latestFinish js σ i)
+
+module _ (js : List Job) (cap : ℕ) where
+  -- a level, and the observed ranges, with one more edge
+  abbrev storedEdge : State → ℕ → List State → List State
+  storedEdge σ i l = stored (successor js σ i) l
+
+  abbrev observedEdge : State → ℕ → List Range → List Range
+  observedEdge σ i seen = observed seen i (finishRange js σ i)
+
+  add-keeps : (P : List State → List Range → Type 0) (σ : State) (i : ℕ) (l : List State) (seen : List Range) (c : ℕ)
+      → (latestFinish js σ i ≤ job js i .deadline → P (storedEdge σ i l) (observedEdge σ i seen)) → WhileGoing P (addEdge js cap σ i l seen c)
+  unfolding addEdge
+  add-keeps P σ i l seen c p = go (ltb (job js i .deadline) (latestFinish js σ i)) refl
+    where
+      go : (b : Bool) → ltb (job js i .deadline) (latestFinish js σ i) ≡ b
+          → WhileGoing P (cond b (miss i (earliestFinish js σ i) (latestFinish js σ i)) (limited cap (successor js σ i) (storedEdge σ i l) (observedEdge σ i seen) c))
+      go true e = tt
+      go false e = limited-keeps P cap (successor js σ i) (storedEdge σ i l) (observedEdge σ i seen) c (p (ltb-false (job js i .deadline) (latestFinish js σ i) e))
+
+  -- one job tried: from what held before it to what holds after
+  try-leads : (P Q : List State → List Range → Type 0) (σ : State) (i : ℕ) → i < length js
+      → ((l : List State) (seen : List Range) → Edge js σ i → P l seen → Q (storedEdge σ i l) (observedEdge σ i seen))
+      → ((l : List State) (seen : List Range) → eligible js σ i ≡ false → P l seen → Q l seen)
+      → (x : Exploration) → WhileGoing P x → WhileGoing Q (tryJob js cap σ i x)
+  unfolding tryJob
+  try-leads P Q σ i b f g (full n) h = tt
+  try-leads P Q σ i b f g (miss j e d) h = tt
+  try-leads P Q σ i b f g (going l seen c) h = go (eligible js σ i) refl
+    where
+      go : (t : Bool) → eligible js σ i ≡ t → WhileGoing Q (cond t (addEdge js cap σ i l seen c) (going l seen c))
+      go true e = add-keeps Q σ i l seen c (λ d. f l seen (record { inside = b; starts = e; timely = d }) h)
+      go false e = g l seen e h
+
+  -- what every edge from states with Q keeps
+  abbrev pub Stable : (State → Type 0) → (List State → List Range → Type 0) → Type 0
+  Stable Q P = (σ : State) (i : ℕ) (l : List State) (seen : List Range) → Q σ → Edge js σ i → P l seen → P (storedEdge σ i l) (observedEdge σ i seen)
+
+  module _ (Q : State → Type 0) (P : List State → List Range → Type 0) (stable : Stable Q P) where
+    pub jobs-keep : (σ : State) → Q σ → (n : ℕ) → n ≤ length js → (x : Exploration) → WhileGoing P x → WhileGoing P (tryJobs js cap σ n x)
+    unfolding tryJobs
+    jobs-keep σ q zero b x h = h
+    jobs-keep σ q (suc n) b x h =
+        try-leads P P σ n b (λ l seen e p. stable σ n l seen q e p) (λ l seen e p. p) (tryJobs js cap σ n x) (jobs-keep σ q n (omega arith) x h)
+
+    pub states-keep : (σs : List State) → All Q σs → (x : Exploration) → WhileGoing P x → WhileGoing P (tryStates js cap σs x)
+    unfolding tryStates
+    states-keep [] q x h = h
+    states-keep (σ ∷ σs) q x h = states-keep σs (q .1) (tryJobs js cap σ (length js) x) (jobs-keep σ (q .0) (length js) (omega arith) x h)
+
+-- ---- the induction principle: what the initial state has, and edges and merges keep, every stored state has, level by level
+
+module _ (js : List Job) (m cap : ℕ) (G : ℕ → State → Type 0)
+    (initial-has : G 0 (initial m (length js)))
+    (successor-has : (n : ℕ) (σ : State) (i : ℕ) → Edge js σ i → G n σ → G (suc n) (successor js σ i))
+    (merge-has : (n : ℕ) (τ σ : State) → mergeable τ σ ≡ true → G n τ → G n σ → G n (merge τ σ)) where
+  stored-has : (n : ℕ) (σ : State) (l : List State) → G n σ → All (G n) l → All (G n) (stored σ l)
+  unfolding stored
+  stored-has n σ [] g h = (g, tt)
+  stored-has n σ (τ ∷ τs) g h = go (mergeable τ σ) refl (stored-has n σ τs g (h .1))
+    where
+      go : (b : Bool) → mergeable τ σ ≡ b → All (G n) (stored σ τs) → All (G n) (cond b (merge τ σ ∷ τs) (τ ∷ stored σ τs))
+      go true e r = (merge-has n τ σ e (h .0) g, h .1)
+      go false e r = (h .0, r)
+
+  abbrev Has : ℕ → List State → List Range → Type 0
+  Has n l seen = All (G n) l
+
+  next-has : (n : ℕ) (x : Exploration) → WhileGoing (Has n) x → WhileGoing (Has (suc n)) (nextLevel js cap x)
+  unfolding nextLevel
+  next-has n (full k) h = tt
+  next-has n (miss i e f) h = tt
+  next-has n (going l seen c) h =
+      counted-keeps (Has (suc n)) (tryStates js cap l (going [] seen c))
+      (states-keep js cap (G n) (Has (suc n)) (λ σ i l′ seen′ g e p. stored-has (suc n) (successor js σ i) l′ (successor-has n σ i e g) p) l h (going [] seen c) tt)
+
+  pub level-has : (n : ℕ) → WhileGoing (Has n) (explored js m cap n)
+  unfolding explored
+  level-has zero =
+      counted-keeps (Has 0) (limited cap (initial m (length js)) (initial m (length js) ∷ []) (replicate (length js) empty) 0)
+      (limited-keeps (Has 0) cap (initial m (length js)) (initial m (length js) ∷ []) (replicate (length js) empty) 0 (initial-has, tt))
+  level-has (suc n) = next-has n (explored js m cap n) (level-has n)
+
+-- ---- every edge of an accepting exploration
+
+wider-hull : (a b : Range) (e f : ℕ) → Wider a (range e f) → Wider (hull a b) (range e f)
+wider-hull empty b e f h = absurd h
+wider-hull (range x y) empty e f h = h
+wider-hull (range x y) (range x′ y′) e f h = omega arith
+
+hull-new : (a : Range) (e f : ℕ) → Wider (hull a (range e f)) (range e f)
+hull-new empty e f = omega arith
+hull-new (range x y) e f = omega arith
+
+abbrev pub statesOf : Exploration → List State
+statesOf (going l seen c) = l
+statesOf (full n) = []
+statesOf (miss i e f) = []
+
+abbrev IsGoing : Exploration → Type 0
+IsGoing (going l seen c) = Unit {0}
+IsGoing (full n) = ⊥
+IsGoing (miss i e f) = ⊥
+
+module _ (js : List Job) (m cap : ℕ) (cores : 1 ≤ m) where
+  record Base (l : List State) (seen : List Range) : Type 0 where
+    shaped : All (Shaped m (length js)) l
+    all-jobs : length seen ≡ length js
+
+  -- the ranges observed of job k contain [e, f]
+  record Observed (k e f : ℕ) (l : List State) (seen : List Range) : Type 0 where
+    base : Base l seen
+    within : Wider (getD seen k empty) (range e f)
+
+  -- an edge has been added: it is in time, its finish range is within the observed one, and the level encloses its new state
+  record Added (σ : State) (i : ℕ) (l : List State) (seen : List Range) : Type 0 where
+    timely : latestFinish js σ i ≤ job js i .deadline
+    seen-too : Observed i (earliestFinish js σ i) (latestFinish js σ i) l seen
+    enclosed : Enclosing (successor js σ i) l
+
+  abbrev Keeps : (List State → List Range → Type 0) → Type 0
+  Keeps = Stable js cap (Shaped m (length js))
+
+  base-keeps : Keeps Base
+  base-keeps σ i l seen g e b =
+      record {
+        shaped = stored-has-shape (successor js σ i) l (successor-shaped m (length js) js σ i cores g) (b .shaped);
+        all-jobs = length-set seen i (hull (getD seen i empty) (finishRange js σ i)) ∙ b .all-jobs;
+      }
+    where
+      stored-has-shape : (σ : State) (l : List State) → Shaped m (length js) σ → All (Shaped m (length js)) l → All (Shaped m (length js)) (stored σ l)
+      stored-has-shape =
+          stored-has js m cap (λ n. Shaped m (length js)) (initial-shaped m (length js)) (λ n σ i e g. successor-shaped m (length js) js σ i cores g)
+          (λ n τ σ e g h. merge-shaped m (length js) τ σ g h) 0
+
+  observed-keeps : (k e f : ℕ) → Keeps (Observed k e f)
+  observed-keeps k e f σ i l seen g d o =
+      record {
+        base = base-keeps σ i l seen g d (o .base);
+        within = set-each (λ j a. Wider (getD seen j empty) (range e f) → Wider a (range e f)) seen i (hull (getD seen i empty) (finishRange js σ i)) empty
+            (omega (arith, d .inside, o .base .all-jobs)) (λ j h. h) (λ h. wider-hull (getD seen i empty) (finishRange js σ i) e f h) k (o .within);
+      }
+
+  added-keeps : (ρ : State) (k : ℕ) → Keeps (Added ρ k)
+  added-keeps ρ k σ i l seen g d a =
+      record {
+        timely = a .timely;
+        seen-too = observed-keeps k (earliestFinish js ρ k) (latestFinish js ρ k) σ i l seen g d (a .seen-too);
+        enclosed = stored-keeps m (length js) (successor js σ i) (successor js ρ k) l (successor-shaped m (length js) js σ i cores g) (a .seen-too .base .shaped) (a .enclosed);
+      }
+
+  edge-added : (σ : State) (i : ℕ) (l : List State) (seen : List Range) → Shaped m (length js) σ → Edge js σ i → Base l seen
+      → Added σ i (stored (successor js σ i) l) (observed seen i (finishRange js σ i))
+  edge-added σ i l seen g d b =
+      record {
+        timely = d .timely;
+        seen-too = record {
+              base = base-keeps σ i l seen g d b;
+              within = rw (getD-set-same seen i (hull (getD seen i empty) (finishRange js σ i)) empty (omega (arith, d .inside, b .all-jobs)))
+                  (hull-new (getD seen i empty) (earliestFinish js σ i) (latestFinish js σ i));
+            };
+        enclosed = stored-encloses m (length js) (successor js σ i) l (successor-shaped m (length js) js σ i cores g) (b .shaped);
+      }
+
+  jobs-add : (σ : State) → Shaped m (length js) σ → (i : ℕ) → eligible js σ i ≡ true → (n : ℕ) → n ≤ length js → i < n → (x : Exploration) → WhileGoing Base x
+      → WhileGoing (Added σ i) (tryJobs js cap σ n x)
+  unfolding tryJobs
+  jobs-add σ g i t zero b h x p = absurd (not-suc-le-zero h)
+  jobs-add σ g i t (suc n) b h x p = go (ℕ-discrete i n) (λ h′. jobs-add σ g i t n (omega arith) h′ x p)
+    where
+      go : Dec (i ≡ n) → (i < n → WhileGoing (Added σ i) (tryJobs js cap σ n x)) → WhileGoing (Added σ i) (tryJob js cap σ n (tryJobs js cap σ n x))
+      go (yes e) r =
+          subst (λ j. WhileGoing (Added σ j) (tryJob js cap σ n (tryJobs js cap σ n x))) (sym e)
+          (try-leads js cap Base (Added σ n) σ n b (λ l seen d p. edge-added σ n l seen g d p) (λ l seen f p. clash (subst (λ j. eligible js σ j ≡ true) e t) f)
+          (tryJobs js cap σ n x) (jobs-keep js cap (Shaped m (length js)) Base base-keeps σ g n (omega arith) x p))
+      go (no d) r =
+          try-leads js cap (Added σ i) (Added σ i) σ n b (λ l seen e p. added-keeps σ i σ n l seen g e p) (λ l seen f p. p) (tryJobs js cap σ n x)
+          (r (lt-of-le-of-ne (le-of-suc-le-suc h) d))
+
+  -- of a state, about what the exploration of its level has become
+  abbrev EdgesAdded : Exploration → State → Type 0
+  EdgesAdded x σ = (i : ℕ) → i < length js → eligible js σ i ≡ true → WhileGoing (Added σ i) x
+
+  states-add : (σs : List State) → All (Shaped m (length js)) σs → (x : Exploration) → WhileGoing Base x → All (EdgesAdded (tryStates js cap σs x)) σs
+  unfolding tryStates
+  states-add [] g x p = tt
+  states-add (σ ∷ σs) g x p = (
+    λ i b t. states-keep js cap (Shaped m (length js)) (Added σ i) (added-keeps σ i) σs (g .1) (tryJobs js cap σ (length js) x)
+        (jobs-add σ (g .0) i t (length js) (omega arith) b x p),
+    states-add σs (g .1) (tryJobs js cap σ (length js) x) (jobs-keep js cap (Shaped m (length js)) Base base-keeps σ (g .0) (length js) (omega arith) x p),
+  )
+
+  -- ---- from level to level
+
+  next-keeps : (P : List State → List Range → Type 0) → Keeps P → ((l : List State) (seen : List Range) → P l seen → All (Shaped m (length js)) l × P [] seen)
+      → (x : Exploration) → WhileGoing P x → WhileGoing P (nextLevel js cap x)
+  unfolding nextLevel
+  next-keeps P s f (full n) h = tt
+  next-keeps P s f (miss i e d) h = tt
+  next-keeps P s f (going l seen c) h =
+      counted-keeps P (tryStates js cap l (going [] seen c)) (states-keep js cap (Shaped m (length js)) P s l (f l seen h .0) (going [] seen c) (f l seen h .1))
+
+  base-next : (l : List State) (seen : List Range) → Base l seen → All (Shaped m (length js)) l × Base [] seen
+  base-next l seen b = (b .shaped, record { shaped = tt; all-jobs = b .all-jobs })
+
+  next-adds : (x : Exploration) → WhileGoing Base x → All (EdgesAdded (nextLevel js cap x)) (statesOf x)
+  unfolding nextLevel
+  next-adds (full n) h = tt
+  next-adds (miss i e f) h = tt
+  next-adds (going l seen c) h =
+      all-map l (λ σ a i b t. counted-keeps (Added σ i) (tryStates js cap l (going [] seen c)) (a i b t)) (states-add l (h .shaped) (going [] seen c) (base-next l seen h .1))
+
+  level-base : (n : ℕ) → WhileGoing Base (explored js m cap n)
+  unfolding explored
+  level-base zero =
+      counted-keeps Base (limited cap (initial m (length js)) (initial m (length js) ∷ []) (replicate (length js) empty) 0)
+      (limited-keeps Base cap (initial m (length js)) (initial m (length js) ∷ []) (replicate (length js) empty) 0
+      (record { shaped = (initial-shaped m (length js), tt); all-jobs = length-replicate (length js) empty }))
+  level-base (suc n) = next-keeps Base base-keeps base-next (explored js m cap n) (level-base n)
+
+  level-adds : (n : ℕ) → All (EdgesAdded (explored js m cap (suc n))) (statesOf (explored js m cap n))
+  unfolding explored
+  level-adds n = next-adds (explored js m cap n) (level-base n)
+
+  later-observed : (k e f n n′ : ℕ) → n ≤ n′ → WhileGoing (Observed k e f) (explored js m cap n) → WhileGoing (Observed k e f) (explored js m cap n′)
+  unfolding explored
+  later-observed k e f n n′ h =
+      climb (λ j. WhileGoing (Observed k e f) (explored js m cap j))
+      (λ j p. next-keeps (Observed k e f) (observed-keeps k e f)
+      (λ l seen o. (o .base .shaped, record { base = base-next l seen (o .base) .1; within = o .within })) (explored js m cap j) p) n n′ h
+
+  next-going : (x : Exploration) → IsGoing (nextLevel js cap x) → IsGoing x
+  unfolding nextLevel
+  next-going (going l seen c) h = tt
+  next-going (full n) h = h
+  next-going (miss i e f) h = h
+
+  earlier-going : (n n′ : ℕ) → n ≤ n′ → IsGoing (explored js m cap n′) → IsGoing (explored js m cap n)
+  unfolding explored
+  earlier-going n n′ h =
+      climb (λ j. IsGoing (explored js m cap j) → IsGoing (explored js m cap n)) (λ j p g. p (next-going (explored js m cap j) g)) n n′ h (λ g. g)
+
+  shaped-of : (x : Exploration) → WhileGoing Base x → All (Shaped m (length js)) (statesOf x)
+  shaped-of (going l seen c) h = h .shaped
+  shaped-of (full n) h = tt
+  shaped-of (miss i e f) h = tt
+
+  added-of : (σ : State) (i : ℕ) (x : Exploration) → IsGoing x → WhileGoing (Added σ i) x
+      → (latestFinish js σ i ≤ job js i .deadline) × WhileGoing (Observed i (earliestFinish js σ i) (latestFinish js σ i)) x × Enclosing (successor js σ i) (statesOf x)
+  added-of σ i (going l seen c) g a = (a .timely, a .seen-too, a .enclosed)
+  added-of σ i (full n) g a = absurd g
+  added-of σ i (miss j e f) g a = absurd g
+
+  initial-in : IsGoing (explored js m cap 0) → Enclosing (initial m (length js)) (statesOf (explored js m cap 0))
+  unfolding explored limited
+  initial-in = go (ltb cap 1)
+    where
+      go : (b : Bool) → IsGoing (counted (cond b (full (level (initial m (length js)))) (going (initial m (length js) ∷ []) (replicate (length js) empty) 0)))
+          → Enclosing (initial m (length js)) (statesOf (counted (cond b (full (level (initial m (length js)))) (going (initial m (length js) ∷ []) (replicate (length js) empty) 0))))
+      go true g = absurd g
+      go false g = inl (encloses-refl (initial m (length js)))
+
+-- ---- what the proof about runs takes from the analysis
+
+-- an edge is in time and within the reported bounds, and the next level encloses its new state
+pub record EdgeCovered (js : List Job) (bounds : List Range) (next : List State) (σ : State) (i : ℕ) : Type 0 where
+  pub timely : latestFinish js σ i ≤ job js i .deadline
+  pub bounded : Wider (getD bounds i empty) (finishRange js σ i)
+  pub enclosed : Enclosing (successor js σ i) next
+
+pub record Coverage (js : List Job) (m : ℕ) (bounds : List Range) (levels : ℕ → List State) : Type 0 where
+  pub shaped : (n : ℕ) → All (Shaped m (length js)) (levels n)
+  pub begins : Enclosing (initial m (length js)) (levels 0)
+  pub edges : (n : ℕ) → n < length js → All (λ σ. (i : ℕ) → i < length js → eligible js σ i ≡ true → EdgeCovered js bounds (levels (suc n)) σ i) (levels n)
+
+pub coverage : (js : List Job) (m cap : ℕ) → 1 ≤ m → (l : List State) (bounds : List Range) (c : ℕ) → explored js m cap (length js) ≡ going l bounds c
+    → Coverage js m bounds (λ n. statesOf (explored js m cap n))
+coverage js m cap cores l bounds c e =
+    record {
+      shaped = λ n. shaped-of js m cap cores (explored js m cap n) (level-base js m cap cores n);
+      begins = initial-in js m cap cores (goes 0 (omega arith));
+      edges = λ n h. all-map (statesOf (explored js m cap n)) (λ σ a i b t. one n h σ i (a i b t)) (level-adds js m cap cores n);
+    }
+  where
+    goes : (n : ℕ) → n ≤ length js → IsGoing (explored js m cap n)
+    goes n h = earlier-going js m cap cores n (length js) h (rw e tt)
+
+    one : (n : ℕ) → n < length js → (σ : State) (i : ℕ) → WhileGoing (Added js m cap cores σ i) (explored js m cap (suc n)) → EdgeCovered js bounds (statesOf (explored js m cap (suc n))) σ i
+    one n h σ i a =
+        let r = added-of js m cap cores σ i (explored js m cap (suc n)) (goes (suc n) h) a in
+        record {
+          timely = r .0;
+          bounded = (rw e at (later-observed js m cap cores i (earliestFinish js σ i) (latestFinish js σ i) (suc n) (length js) h (r .1))) .within;
+          enclosed = r .2;
+        }

@@ -1,0 +1,6 @@
+-- The proof of demand 3, and laws that proofs of code cite.
+pub mod Booleans
+pub mod Folds
+pub mod Availability
+pub mod Enclosure
+pub mod Levels
