@@ -3,4 +3,8 @@ pub mod Booleans
 pub mod Folds
 pub mod Availability
 pub mod Enclosure
-pub mod Levels
+pub mod Induction
+pub mod Coverage
+pub mod Priority
+pub mod History
+pub mod Starts

@@ -1,4 +1,4 @@
--- The exploration level by level: an induction principle of the analysis, and what an accepting one tells of every edge. Assumes nothing.
+-- Coverage: every edge of an accepting analysis is in time and within the reported bounds, and the next level encloses the state that it makes. Assumes nothing.
 use Prim.Native.Nat.{ℕ, zero, suc, _≤_, _<_, zero-le}
 use mathlib.Core.Path.{_≡_, refl, sym, _∙_, subst}
 use mathlib.Core.Logic.{inl}
@@ -11,14 +11,14 @@ use native.Mathlib.Omega.{arith}
 use lib.Dec.{ltb}
 use lib.ListN.{getD, length, replicate, length-set, length-replicate}
 use lib.Seq.{getD-set-same}
-use borrow.Author.Tests.{ltb-false}
 use Rattle.model.specs.Jobs.{Job, job}
 use Rattle.model.specs.States.{Range, empty, range, State, level, initial}
 use Rattle.model.specs.Edges.{eligible, earliestFinish, latestFinish, successor}
-use Rattle.model.specs.Exploration.{hull, mergeable, merge, stored, Exploration, going, full, miss, limited, observed, addEdge, tryJob, tryJobs, tryStates, counted, nextLevel, explored}
+use Rattle.model.specs.Exploration.{hull, stored, Exploration, going, full, miss, limited, observed, tryJob, tryJobs, tryStates, counted, nextLevel, explored}
 use Rattle.model.proofs.Booleans.{clash}
 use Rattle.model.proofs.Folds.{set-each}
-use Rattle.model.proofs.Enclosure.{All, all-map, Wider, Encloses, encloses-refl, Shaped, initial-shaped, successor-shaped, merge-shaped, Enclosing, stored-encloses, stored-keeps}
+use Rattle.model.proofs.Enclosure.{All, all-map, Wider, encloses-refl, Shaped, initial-shaped, successor-shaped, merge-shaped, Enclosing, stored-encloses, stored-keeps}
+use Rattle.model.proofs.Induction.{WhileGoing, counted-keeps, limited-keeps, Edge, finishRange, try-leads, Stable, jobs-keep, states-keep, stored-all}
 
 -- what each step keeps holds from k up
 pub climb : (P : ℕ → Type 0) → ((n : ℕ) → P n → P (suc n)) → (k n : ℕ) → k ≤ n → P k → P n
@@ -29,116 +29,7 @@ climb P s k (suc n) h p = go (ℕ-discrete k (suc n)) (λ h′. s n (climb P s k
     go (yes e) r = subst P e p
     go (no d) r = r (le-of-suc-le-suc (lt-of-le-of-ne h d))
 
--- of an exploration that goes on; of one that has stopped, nothing
-abbrev pub WhileGoing : (List State → List Range → Type 0) → Exploration → Type 0
-WhileGoing P (going l seen c) = P l seen
-WhileGoing P (full n) = Unit {0}
-WhileGoing P (miss i e f) = Unit {0}
-
-counted-keeps : (P : List State → List Range → Type 0) (x : Exploration) → WhileGoing P x → WhileGoing P (counted x)
-counted-keeps P (going l seen c) h = h
-counted-keeps P (full n) h = tt
-counted-keeps P (miss i e f) h = tt
-
-limited-keeps : (P : List State → List Range → Type 0) (cap : ℕ) (σ : State) (l : List State) (seen : List Range) (c : ℕ) → P l seen → WhileGoing P (limited cap σ l seen c)
-unfolding limited
-limited-keeps P cap σ l seen c p = go (ltb cap (length l))
-  where
-    go : (b : Bool) → WhileGoing P (cond b (full (level σ)) (going l seen c))
-    go true = tt
-    go false = p
-
--- job i may start next in the state, and then finishes in time
-pub record Edge (js : List Job) (σ : State) (i : ℕ) : Type 0 where
-  pub inside : i < length js
-  pub starts : eligible js σ i ≡ true
-  pub timely : latestFinish js σ i ≤ job js i .deadline
-
-abbrev pub finishRange : List Job → State → ℕ → Range
-finishRange js σ i = range (earliestFinish js σ i) (latestFinish js σ i)
-
-module _ (js : List Job) (cap : ℕ) where
-  -- a level, and the observed ranges, with one more edge
-  abbrev storedEdge : State → ℕ → List State → List State
-  storedEdge σ i l = stored (successor js σ i) l
-
-  abbrev observedEdge : State → ℕ → List Range → List Range
-  observedEdge σ i seen = observed seen i (finishRange js σ i)
-
-  add-keeps : (P : List State → List Range → Type 0) (σ : State) (i : ℕ) (l : List State) (seen : List Range) (c : ℕ)
-      → (latestFinish js σ i ≤ job js i .deadline → P (storedEdge σ i l) (observedEdge σ i seen)) → WhileGoing P (addEdge js cap σ i l seen c)
-  unfolding addEdge
-  add-keeps P σ i l seen c p = go (ltb (job js i .deadline) (latestFinish js σ i)) refl
-    where
-      go : (b : Bool) → ltb (job js i .deadline) (latestFinish js σ i) ≡ b
-          → WhileGoing P (cond b (miss i (earliestFinish js σ i) (latestFinish js σ i)) (limited cap (successor js σ i) (storedEdge σ i l) (observedEdge σ i seen) c))
-      go true e = tt
-      go false e = limited-keeps P cap (successor js σ i) (storedEdge σ i l) (observedEdge σ i seen) c (p (ltb-false (job js i .deadline) (latestFinish js σ i) e))
-
-  -- one job tried: from what held before it to what holds after
-  try-leads : (P Q : List State → List Range → Type 0) (σ : State) (i : ℕ) → i < length js
-      → ((l : List State) (seen : List Range) → Edge js σ i → P l seen → Q (storedEdge σ i l) (observedEdge σ i seen))
-      → ((l : List State) (seen : List Range) → eligible js σ i ≡ false → P l seen → Q l seen)
-      → (x : Exploration) → WhileGoing P x → WhileGoing Q (tryJob js cap σ i x)
-  unfolding tryJob
-  try-leads P Q σ i b f g (full n) h = tt
-  try-leads P Q σ i b f g (miss j e d) h = tt
-  try-leads P Q σ i b f g (going l seen c) h = go (eligible js σ i) refl
-    where
-      go : (t : Bool) → eligible js σ i ≡ t → WhileGoing Q (cond t (addEdge js cap σ i l seen c) (going l seen c))
-      go true e = add-keeps Q σ i l seen c (λ d. f l seen (record { inside = b; starts = e; timely = d }) h)
-      go false e = g l seen e h
-
-  -- what every edge from states with Q keeps
-  abbrev pub Stable : (State → Type 0) → (List State → List Range → Type 0) → Type 0
-  Stable Q P = (σ : State) (i : ℕ) (l : List State) (seen : List Range) → Q σ → Edge js σ i → P l seen → P (storedEdge σ i l) (observedEdge σ i seen)
-
-  module _ (Q : State → Type 0) (P : List State → List Range → Type 0) (stable : Stable Q P) where
-    pub jobs-keep : (σ : State) → Q σ → (n : ℕ) → n ≤ length js → (x : Exploration) → WhileGoing P x → WhileGoing P (tryJobs js cap σ n x)
-    unfolding tryJobs
-    jobs-keep σ q zero b x h = h
-    jobs-keep σ q (suc n) b x h =
-        try-leads P P σ n b (λ l seen e p. stable σ n l seen q e p) (λ l seen e p. p) (tryJobs js cap σ n x) (jobs-keep σ q n (omega arith) x h)
-
-    pub states-keep : (σs : List State) → All Q σs → (x : Exploration) → WhileGoing P x → WhileGoing P (tryStates js cap σs x)
-    unfolding tryStates
-    states-keep [] q x h = h
-    states-keep (σ ∷ σs) q x h = states-keep σs (q .1) (tryJobs js cap σ (length js) x) (jobs-keep σ (q .0) (length js) (omega arith) x h)
-
--- ---- the induction principle: what the initial state has, and edges and merges keep, every stored state has, level by level
-
-module _ (js : List Job) (m cap : ℕ) (G : ℕ → State → Type 0)
-    (initial-has : G 0 (initial m (length js)))
-    (successor-has : (n : ℕ) (σ : State) (i : ℕ) → Edge js σ i → G n σ → G (suc n) (successor js σ i))
-    (merge-has : (n : ℕ) (τ σ : State) → mergeable τ σ ≡ true → G n τ → G n σ → G n (merge τ σ)) where
-  stored-has : (n : ℕ) (σ : State) (l : List State) → G n σ → All (G n) l → All (G n) (stored σ l)
-  unfolding stored
-  stored-has n σ [] g h = (g, tt)
-  stored-has n σ (τ ∷ τs) g h = go (mergeable τ σ) refl (stored-has n σ τs g (h .1))
-    where
-      go : (b : Bool) → mergeable τ σ ≡ b → All (G n) (stored σ τs) → All (G n) (cond b (merge τ σ ∷ τs) (τ ∷ stored σ τs))
-      go true e r = (merge-has n τ σ e (h .0) g, h .1)
-      go false e r = (h .0, r)
-
-  abbrev Has : ℕ → List State → List Range → Type 0
-  Has n l seen = All (G n) l
-
-  next-has : (n : ℕ) (x : Exploration) → WhileGoing (Has n) x → WhileGoing (Has (suc n)) (nextLevel js cap x)
-  unfolding nextLevel
-  next-has n (full k) h = tt
-  next-has n (miss i e f) h = tt
-  next-has n (going l seen c) h =
-      counted-keeps (Has (suc n)) (tryStates js cap l (going [] seen c))
-      (states-keep js cap (G n) (Has (suc n)) (λ σ i l′ seen′ g e p. stored-has (suc n) (successor js σ i) l′ (successor-has n σ i e g) p) l h (going [] seen c) tt)
-
-  pub level-has : (n : ℕ) → WhileGoing (Has n) (explored js m cap n)
-  unfolding explored
-  level-has zero =
-      counted-keeps (Has 0) (limited cap (initial m (length js)) (initial m (length js) ∷ []) (replicate (length js) empty) 0)
-      (limited-keeps (Has 0) cap (initial m (length js)) (initial m (length js) ∷ []) (replicate (length js) empty) 0 (initial-has, tt))
-  level-has (suc n) = next-has n (explored js m cap n) (level-has n)
-
--- ---- every edge of an accepting exploration
+-- ---- what is kept of an edge
 
 wider-hull : (a b : Range) (e f : ℕ) → Wider a (range e f) → Wider (hull a b) (range e f)
 wider-hull empty b e f h = absurd h
@@ -181,14 +72,9 @@ module _ (js : List Job) (m cap : ℕ) (cores : 1 ≤ m) where
   base-keeps : Keeps Base
   base-keeps σ i l seen g e b =
       record {
-        shaped = stored-has-shape (successor js σ i) l (successor-shaped m (length js) js σ i cores g) (b .shaped);
+        shaped = stored-all (Shaped m (length js)) (λ τ σ e g h. merge-shaped m (length js) τ σ g h) (successor js σ i) l (successor-shaped m (length js) js σ i cores g) (b .shaped);
         all-jobs = length-set seen i (hull (getD seen i empty) (finishRange js σ i)) ∙ b .all-jobs;
       }
-    where
-      stored-has-shape : (σ : State) (l : List State) → Shaped m (length js) σ → All (Shaped m (length js)) l → All (Shaped m (length js)) (stored σ l)
-      stored-has-shape =
-          stored-has js m cap (λ n. Shaped m (length js)) (initial-shaped m (length js)) (λ n σ i e g. successor-shaped m (length js) js σ i cores g)
-          (λ n τ σ e g h. merge-shaped m (length js) τ σ g h) 0
 
   observed-keeps : (k e f : ℕ) → Keeps (Observed k e f)
   observed-keeps k e f σ i l seen g d o =
@@ -212,10 +98,10 @@ module _ (js : List Job) (m cap : ℕ) (cores : 1 ≤ m) where
       record {
         timely = d .timely;
         seen-too = record {
-              base = base-keeps σ i l seen g d b;
-              within = rw (getD-set-same seen i (hull (getD seen i empty) (finishRange js σ i)) empty (omega (arith, d .inside, b .all-jobs)))
-                  (hull-new (getD seen i empty) (earliestFinish js σ i) (latestFinish js σ i));
-            };
+          base = base-keeps σ i l seen g d b;
+          within = rw (getD-set-same seen i (hull (getD seen i empty) (finishRange js σ i)) empty (omega (arith, d .inside, b .all-jobs)))
+              (hull-new (getD seen i empty) (earliestFinish js σ i) (latestFinish js σ i));
+        };
         enclosed = stored-encloses m (length js) (successor js σ i) l (successor-shaped m (length js) js σ i cores g) (b .shaped);
       }
 
