@@ -2,18 +2,18 @@
 use Prim.Native.Nat.{ℕ, suc, _+_, _≤_, _<_}
 use mathlib.Core.Path.{_≡_, refl, sym, ap, _∙_}
 use mathlib.Core.Logic.{_⊎_, inl, inr, ⊎-elim}
-use mathlib.Core.Bool.{Bool, true, false, not, _&&_, cond, false≢true}
+use mathlib.Core.Bool.{Bool, true, false, not, _&&_, cond, false≢true, true≢false}
 use mathlib.Core.List.{List, map}
 use native.Mathlib.Omega.{arith}
 use lib.Dec.{ltb, leb, eqb}
-use lib.ListN.{getD, List·getD-map}
+use lib.ListN.{getD, length, set, List·getD-map}
 use borrow.Author.Tests.{lt-ltb, le-ltb, ltb-false, leb-true, leb-false, le-leb, eq-eqb, ne-eqb, not-true}
 use Rattle.model.specs.Folds.{ind, count, every, member}
 use Rattle.model.specs.Jobs.{Job, predecessors}
 use Rattle.model.specs.Dispatch.{Scenario, Status, waiting, running, done, status, isWaiting, isDone, finishesAt, finished, ready}
 use Rattle.model.specs.Guarantee.{statusAt}
 use Rattle.model.proofs.Booleans.{cases, and-left, and-right, and-both}
-use Rattle.model.proofs.Folds.{every-in, every-out}
+use Rattle.model.proofs.Folds.{every-in, every-out, count-set}
 
 pub data Entry : Type 0 where
   unstarted : Entry
@@ -100,6 +100,23 @@ view-passes t (ran s f) b = rw (view-begun t s f (b .0), view-begun (suc t) s f 
     go (inl h) = rw (le-ltb t f h, le-ltb (suc t) f (omega arith)) (refl, refl)
     go (inr (inl h)) = rw (lt-ltb t f (omega arith), le-ltb (suc t) f (omega arith), eq-eqb f (suc t) h) (refl, refl)
     go (inr (inr h)) = rw (lt-ltb t f (omega arith), lt-ltb (suc t) f h, ne-eqb f (suc t) (λ e. omega arith)) (refl, refl)
+
+-- ---- a start
+
+pub fresh-unfinished : (u : ℕ) (x : Entry) → hasStarted x ≡ false → Finished u x → ⊥
+fresh-unfinished u unstarted e f = f
+fresh-unfinished u (ran a b) e f = true≢false e
+
+pub fresh-waiting : (u : ℕ) (x : Entry) → hasStarted x ≡ false → view u x ≡ waiting
+fresh-waiting u unstarted e = refl
+fresh-waiting u (ran a f) e = absurd (true≢false e)
+
+fresh-idle : (u : ℕ) (x : Entry) → hasStarted x ≡ false → ind (runsPast u x) ≡ 0
+fresh-idle u unstarted e = refl
+fresh-idle u (ran a b) e = absurd (true≢false e)
+
+pub busy-start : (u : ℕ) (h : List Entry) (i s f : ℕ) → i < length h → hasStarted (entry h i) ≡ false → busy u (set h i (ran s f)) ≡ busy u h + ind (ltb u f)
+busy-start u h i s f b e = omega (arith, count-set (runsPast u) h i (ran s f) unstarted b, fresh-idle u (entry h i) e)
 
 -- ---- readiness
 

@@ -8,3 +8,4 @@ pub mod Coverage
 pub mod Priority
 pub mod History
 pub mod Starts
+pub mod Invariant

@@ -2,7 +2,7 @@
 use Prim.Native.Nat.{ℕ, suc, _+_, _≤_, _<_, max}
 use mathlib.Core.Path.{_≡_, refl, sym, ap, _∙_}
 use mathlib.Core.Logic.{inl, inr, ⊎-elim}
-use mathlib.Core.Bool.{Bool, true, false, not, _&&_, false≢true, true≢false}
+use mathlib.Core.Bool.{Bool, true, false, not, _&&_, false≢true}
 use mathlib.Core.List.{List, tail}
 use native.Mathlib.Omega.{arith}
 use native.Mathlib.Decide.{ℕ-discrete}
@@ -17,11 +17,11 @@ use Rattle.model.specs.States.{Range, empty, range, isRange, earliest, l
 use Rattle.model.specs.Edges.{orZero, isBelow, lastBelow, candidate, possiblyReady, certainlyReady, earliestStart, workConservingBound, certainlyReadyBeside, higherPriorityBound, eligible, latestStart, earliestFinish, latestFinish, availability, successor}
 use Rattle.model.specs.Guarantee.{Admissible}
 use Rattle.model.proofs.Booleans.{cases, and-left, and-right, and-both, ind-le}
-use Rattle.model.proofs.Folds.{every-in, every-out, largest-le, le-largest, Attained, smallest-attained, IsFinite, smallest-finite, count-set, count-mono}
+use Rattle.model.proofs.Folds.{every-in, every-out, largest-le, le-largest, Attained, smallest-attained, IsFinite, smallest-finite, count-mono}
 use Rattle.model.proofs.Availability.{countUpTo, Weighs, weighs, weighs-one, weighs-none, availability-from, availability-before, count-first}
 use Rattle.model.proofs.Enclosure.{Wider, Encloses, Shaped}
 use Rattle.model.proofs.Induction.{finishRange}
-use Rattle.model.proofs.History.{Entry, unstarted, ran, entry, hasStarted, runsPast, busy, Finished, Ready}
+use Rattle.model.proofs.History.{Entry, unstarted, ran, entry, hasStarted, runsPast, busy, Finished, busy-start, Ready}
 
 -- ---- the relation
 
@@ -204,11 +204,7 @@ module _ (js : List Job) (m : ℕ) (s : Scenario) (admissible : Admissible js s)
 
     module _ (len : length h ≡ length js) where
       busy-new : (u : ℕ) → busy u (set h i (ran t f)) ≡ busy u h + ind (ltb u f)
-      busy-new u = omega (arith, count-set (runsPast u) h i (ran t f) unstarted (omega (arith, inside, len)), fresh-idle (entry h i) (is .fresh))
-        where
-          fresh-idle : (x : Entry) → hasStarted x ≡ false → ind (runsPast u x) ≡ 0
-          fresh-idle unstarted e = refl
-          fresh-idle (ran a b) e = absurd (true≢false e)
+      busy-new u = busy-start u h i t f (omega (arith, inside, len)) (is .fresh)
 
       fits-new : (k : ℕ) → Fits (finishOf (successor js σ i) k) (entry (set h i (ran t f)) k)
       unfolding successor
