@@ -9,3 +9,5 @@ pub mod Priority
 pub mod History
 pub mod Starts
 pub mod Invariant
+pub mod Predecessors
+pub mod Soundness

@@ -32,7 +32,7 @@ Fits empty (ran s x) = ⊥
 Fits (range e f) unstarted = ⊥
 Fits (range e f) (ran s x) = (e ≤ x) × (x ≤ f)
 
-fits-started : (a : Range) (x : Entry) → Fits a x → isRange a ≡ hasStarted x
+pub fits-started : (a : Range) (x : Entry) → Fits a x → isRange a ≡ hasStarted x
 fits-started empty unstarted h = refl
 fits-started empty (ran s x) h = absurd h
 fits-started (range e f) unstarted h = absurd h
@@ -119,8 +119,8 @@ module _ (js : List Job) (m : ℕ) (s : Scenario) (admissible : Admissible js s)
           let u : ℕ = max (first (σ .certainlyFree)) x in
           let free : 1 ≤ countUpTo u (σ .certainlyFree) = omega (arith, count-first u m (σ .certainlyFree) cores (shaped .certainly), weighs-one (first (σ .certainlyFree)) u (omega arith)) in
           let ready = candidate-ready (a .0) u (a .1) (a .2) (omega (arith, a .3))
-                  (λ w q e. fits-finished u (finishOf σ w) (entry h w) (covers .finishes w) e
-                  (omega (arith, a .3, le-largest all (λ v. latest (finishOf σ v)) (predecessors js (a .0)) w q refl)))
+          (λ w q e. fits-finished u (finishOf σ w) (entry h w) (covers .finishes w) e
+          (omega (arith, a .3, le-largest all (λ v. latest (finishOf σ v)) (predecessors js (a .0)) w q refl)))
           in omega (arith, covers .certainly u free, idle u l (a .0) (a .1) ready)
 
   -- ---- job i starts at t: it is ready, a core is free, and no ready job goes before it
