@@ -18,7 +18,7 @@ use Rattle.model.specs.Exploration.{hull, stored, Exploration, going, fu
 use Rattle.model.proofs.Booleans.{clash}
 use Rattle.model.proofs.Folds.{set-each}
 use Rattle.model.proofs.Enclosure.{All, all-map, Wider, encloses-refl, Shaped, initial-shaped, successor-shaped, merge-shaped, Enclosing, stored-encloses, stored-keeps}
-use Rattle.model.proofs.Induction.{WhileGoing, counted-keeps, limited-keeps, Edge, finishRange, try-leads, Stable, jobs-keep, states-keep, stored-all}
+use Rattle.model.proofs.Induction.{WhileGoing, counted-keeps, Edge, finishRange, try-leads, Stable, jobs-keep, states-keep, stored-all, next-leads, first-level}
 
 -- what each step keeps holds from k up
 pub climb : (P : ℕ → Type 0) → ((n : ℕ) → P n → P (suc n)) → (k n : ℕ) → k ≤ n → P k → P n
@@ -135,16 +135,12 @@ module _ (js : List Job) (m cap : ℕ) (cores : 1 ≤ m) where
 
   -- ---- from level to level
 
-  next-keeps : (P : List State → List Range → Type 0) → Keeps P → ((l : List State) (seen : List Range) → P l seen → All (Shaped m (length js)) l × P [] seen)
-      → (x : Exploration) → WhileGoing P x → WhileGoing P (nextLevel js cap x)
-  unfolding nextLevel
-  next-keeps P s f (full n) h = tt
-  next-keeps P s f (miss i e d) h = tt
-  next-keeps P s f (going l seen c) h =
-      counted-keeps P (tryStates js cap l (going [] seen c)) (states-keep js cap (Shaped m (length js)) P s l (f l seen h .0) (going [] seen c) (f l seen h .1))
-
   base-next : (l : List State) (seen : List Range) → Base l seen → All (Shaped m (length js)) l × Base [] seen
   base-next l seen b = (b .shaped, record { shaped = tt; all-jobs = b .all-jobs })
+
+  abbrev next-keeps : (P : List State → List Range → Type 0) → Keeps P → ((l : List State) (seen : List Range) → P l seen → All (Shaped m (length js)) l × P [] seen)
+      → (x : Exploration) → WhileGoing P x → WhileGoing P (nextLevel js cap x)
+  next-keeps P = next-leads js cap (Shaped m (length js)) P P
 
   next-adds : (x : Exploration) → WhileGoing Base x → All (EdgesAdded (nextLevel js cap x)) (statesOf x)
   unfolding nextLevel
@@ -156,9 +152,7 @@ module _ (js : List Job) (m cap : ℕ) (cores : 1 ≤ m) where
   level-base : (n : ℕ) → WhileGoing Base (explored js m cap n)
   unfolding explored
   level-base zero =
-      counted-keeps Base (limited cap (initial m (length js)) (initial m (length js) ∷ []) (replicate (length js) empty) 0)
-      (limited-keeps Base cap (initial m (length js)) (initial m (length js) ∷ []) (replicate (length js) empty) 0
-      (record { shaped = (initial-shaped m (length js), tt); all-jobs = length-replicate (length js) empty }))
+      first-level js m cap Base (record { shaped = (initial-shaped m (length js), tt); all-jobs = length-replicate (length js) empty })
   level-base (suc n) = next-keeps Base base-keeps base-next (explored js m cap n) (level-base n)
 
   level-adds : (n : ℕ) → All (EdgesAdded (explored js m cap (suc n))) (statesOf (explored js m cap n))

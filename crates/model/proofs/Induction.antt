@@ -1,16 +1,18 @@
--- An induction principle of the analysis: what the initial state has, and edges and merges keep, every stored state has. Assumes nothing.
+-- An induction principle of the analysis: what the initial state has, and edges and merges keep, every stored state has; and so for the observed
+-- ranges. Assumes nothing.
 use Prim.Native.Nat.{ℕ, zero, suc, _≤_, _<_}
-use mathlib.Core.Path.{_≡_, refl}
+use mathlib.Core.Path.{_≡_, refl, _∙_}
 use mathlib.Core.Bool.{Bool, true, false, cond}
 use mathlib.Core.List.{List, [], _∷_}
 use native.Mathlib.Omega.{arith}
 use lib.Dec.{ltb}
-use lib.ListN.{length, replicate}
+use lib.ListN.{getD, length, replicate, length-set, length-replicate}
 use borrow.Author.Tests.{ltb-false}
 use Rattle.model.specs.Jobs.{Job, job}
 use Rattle.model.specs.States.{Range, empty, range, State, level, initial}
 use Rattle.model.specs.Edges.{eligible, earliestFinish, latestFinish, successor}
-use Rattle.model.specs.Exploration.{mergeable, merge, stored, Exploration, going, full, miss, limited, observed, addEdge, tryJob, tryJobs, tryStates, counted, nextLevel, explored}
+use Rattle.model.specs.Exploration.{hull, mergeable, merge, stored, Exploration, going, full, miss, limited, observed, addEdge, tryJob, tryJobs, tryStates, counted, nextLevel, explored}
+use Rattle.model.proofs.Folds.{set-each, getD-same}
 use Rattle.model.proofs.Enclosure.{All}
 
 -- of an exploration that goes on; of one that has stopped, nothing
@@ -24,7 +26,7 @@ counted-keeps P (going l seen c) h = h
 counted-keeps P (full n) h = tt
 counted-keeps P (miss i e f) h = tt
 
-pub limited-keeps : (P : List State → List Range → Type 0) (cap : ℕ) (σ : State) (l : List State) (seen : List Range) (c : ℕ) → P l seen → WhileGoing P (limited cap σ l seen c)
+limited-keeps : (P : List State → List Range → Type 0) (cap : ℕ) (σ : State) (l : List State) (seen : List Range) (c : ℕ) → P l seen → WhileGoing P (limited cap σ l seen c)
 unfolding limited
 limited-keeps P cap σ l seen c p = go (ltb cap (length l))
   where
@@ -101,24 +103,48 @@ stored-all P f σ (τ ∷ τs) g h = go (mergeable τ σ) refl (stored-all P f �
 
 -- ---- level by level
 
-module _ (js : List Job) (m cap : ℕ) (G : ℕ → State → Type 0)
+-- one level explored: from what held of the level before to what holds of the new one, which begins with no state
+pub next-leads : (js : List Job) (cap : ℕ) (Q : State → Type 0) (P P′ : List State → List Range → Type 0) → Stable js cap Q P′
+    → ((l : List State) (seen : List Range) → P l seen → All Q l × P′ [] seen) → (x : Exploration) → WhileGoing P x → WhileGoing P′ (nextLevel js cap x)
+unfolding nextLevel
+next-leads js cap Q P P′ stable f (full n) h = tt
+next-leads js cap Q P P′ stable f (miss i e d) h = tt
+next-leads js cap Q P P′ stable f (going l seen c) h =
+    counted-keeps P′ (tryStates js cap l (going [] seen c)) (states-keep js cap Q P′ stable l (f l seen h .0) (going [] seen c) (f l seen h .1))
+
+pub first-level : (js : List Job) (m cap : ℕ) (P : List State → List Range → Type 0) → P (initial m (length js) ∷ []) (replicate (length js) empty) → WhileGoing P (explored js m cap 0)
+unfolding explored
+first-level js m cap P p =
+    counted-keeps P (limited cap (initial m (length js)) (initial m (length js) ∷ []) (replicate (length js) empty) 0)
+    (limited-keeps P cap (initial m (length js)) (initial m (length js) ∷ []) (replicate (length js) empty) 0 p)
+
+-- G of the states of a level, R of the range observed of each job
+module _ (js : List Job) (m cap : ℕ) (G : ℕ → State → Type 0) (R : ℕ → Range → Type 0)
     (initial-has : G 0 (initial m (length js)))
     (successor-has : (n : ℕ) (σ : State) (i : ℕ) → Edge js σ i → G n σ → G (suc n) (successor js σ i))
-    (merge-has : (n : ℕ) (τ σ : State) → mergeable τ σ ≡ true → G n τ → G n σ → G n (merge τ σ)) where
-  abbrev Has : ℕ → List State → List Range → Type 0
-  Has n l seen = All (G n) l
+    (merge-has : (n : ℕ) (τ σ : State) → mergeable τ σ ≡ true → G n τ → G n σ → G n (merge τ σ))
+    (empty-has : (k : ℕ) → R k empty)
+    (observed-has : (n : ℕ) (σ : State) (i : ℕ) → Edge js σ i → G n σ → (r : Range) → R i r → R i (hull r (finishRange js σ i))) where
+  pub record Has (n : ℕ) (l : List State) (seen : List Range) : Type 0 where
+    pub states : All (G n) l
+    pub all-jobs : length seen ≡ length js
+    pub ranges : (k : ℕ) → R k (getD seen k empty)
 
-  next-has : (n : ℕ) (x : Exploration) → WhileGoing (Has n) x → WhileGoing (Has (suc n)) (nextLevel js cap x)
-  unfolding nextLevel
-  next-has n (full k) h = tt
-  next-has n (miss i e f) h = tt
-  next-has n (going l seen c) h =
-      counted-keeps (Has (suc n)) (tryStates js cap l (going [] seen c))
-      (states-keep js cap (G n) (Has (suc n)) (λ σ i l′ seen′ g e p. stored-all (G (suc n)) (merge-has (suc n)) (successor js σ i) l′ (successor-has n σ i e g) p) l h (going [] seen c) tt)
+  edge-has : (n : ℕ) → Stable js cap (G n) (Has (suc n))
+  edge-has n σ i l seen g e p =
+      record {
+        states = stored-all (G (suc n)) (merge-has (suc n)) (successor js σ i) l (successor-has n σ i e g) (p .states);
+        all-jobs = length-set seen i (hull (getD seen i empty) (finishRange js σ i)) ∙ p .all-jobs;
+        ranges = set-each R seen i (hull (getD seen i empty) (finishRange js σ i)) empty (omega (arith, e .inside, p .all-jobs)) (p .ranges)
+            (observed-has n σ i e g (getD seen i empty) (p .ranges i));
+      }
 
+  -- the induction principle
   pub level-has : (n : ℕ) → WhileGoing (Has n) (explored js m cap n)
   unfolding explored
   level-has zero =
-      counted-keeps (Has 0) (limited cap (initial m (length js)) (initial m (length js) ∷ []) (replicate (length js) empty) 0)
-      (limited-keeps (Has 0) cap (initial m (length js)) (initial m (length js) ∷ []) (replicate (length js) empty) 0 (initial-has, tt))
-  level-has (suc n) = next-has n (explored js m cap n) (level-has n)
+      first-level js m cap (Has 0)
+      (record { states = (initial-has, tt); all-jobs = length-replicate (length js) empty; ranges = λ k. rw (getD-same (length js) k empty) (empty-has k) })
+  level-has (suc n) =
+      next-leads js cap (G n) (Has n) (Has (suc n)) (edge-has n) (λ l seen p. (p .states, record { states = tt; all-jobs = p .all-jobs; ranges = p .ranges }))
+      (explored js m cap n) (level-has n)

@@ -11,3 +11,4 @@ pub mod Starts
 pub mod Invariant
 pub mod Predecessors
 pub mod Soundness
+pub mod Example
