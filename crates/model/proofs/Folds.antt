@@ -126,6 +126,24 @@ smallest-finite p f (suc n) i h e = go (p n) refl (λ h′. smallest-finite p f 
     go true q r = smaller-finite (f n) (smallest p f n)
     go false q r = r (lt-of-le-of-ne (le-of-suc-le-suc h) (λ d. true≢false (sym e ∙ ap p d ∙ q)))
 
+-- a limit of numbers up to b is at most b
+abbrev pub LimitUpTo : ℕ → Limit → Type 0
+LimitUpTo b infinite = Unit {0}
+LimitUpTo b (finite x) = x ≤ b
+
+pub smallest-le : (p : ℕ → Bool) (f : ℕ → ℕ) (n b : ℕ) → ((k : ℕ) → k < n → f k ≤ b) → LimitUpTo b (smallest p f n)
+unfolding smallest
+smallest-le p f zero b h = tt
+smallest-le p f (suc n) b h = go (p n) (smallest-le p f n b (λ k l. h k (omega arith)))
+  where
+    low : (l : Limit) → LimitUpTo b l → LimitUpTo b (smaller (f n) l)
+    low infinite q = h n (omega arith)
+    low (finite y) q = omega (arith, q)
+
+    go : (t : Bool) → LimitUpTo b (smallest p f n) → LimitUpTo b (cond t (smaller (f n) (smallest p f n)) (smallest p f n))
+    go true q = low (smallest p f n) q
+    go false q = q
+
 -- ---- counts
 
 module _ {A : Type 0} where

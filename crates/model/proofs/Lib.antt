@@ -12,3 +12,4 @@ pub mod Invariant
 pub mod Predecessors
 pub mod Soundness
 pub mod Example
+pub mod Bounds
