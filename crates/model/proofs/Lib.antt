@@ -13,3 +13,4 @@ pub mod Predecessors
 pub mod Soundness
 pub mod Example
 pub mod Bounds
+pub mod StartedSet
