@@ -1,18 +1,18 @@
 -- Bounds on every number that the analysis stores or makes, for sums and casts of code: stored times are at most the latest deadline and release,
 -- finish times of an edge at most an execution more. Assumes nothing.
-use Prim.Native.Nat.{ℕ, zero, suc, _+_, _≤_, _<_, min, max, zero-le}
-use mathlib.Core.Path.{_≡_, refl, _∙_}
+use Prim.Native.Nat.{ℕ, zero, suc, _+_, _≤_, _<_, min, max}
+use mathlib.Core.Path.{_≡_, _∙_}
 use mathlib.Core.Bool.{Bool, true, false, not, _&&_, cond}
 use mathlib.Core.List.{List, [], _∷_, map, tail, zipWith}
 use native.Mathlib.Omega.{arith}
 use lib.Dec.{leb}
-use lib.ListN.{getD, length, set, replicate, length-set, length-replicate}
+use lib.ListN.{getD, length, replicate, length-set, length-replicate}
 use borrow.Author.Tests.{leb-true, ltb-true}
 use Rattle.model.specs.Folds.{largest, member, all, Limit, infinite, finite, smallest}
 use Rattle.model.specs.Jobs.{Job, job, predecessors}
 use Rattle.model.specs.States.{Range, empty, range, earliest, latest, State, finishOf, first, initial}
 use Rattle.model.specs.Edges.{orZero, isBelow, lastBelow, candidate, possiblyReady, certainlyReady, earliestStart, workConservingBound, certainlyReadyBeside, higherPriorityBound, eligible, latestStart, earliestFinish, latestFinish, insert, sort, availability, successor}
-use Rattle.model.specs.Exploration.{hull, mergeable, merge, explored}
+use Rattle.model.specs.Exploration.{hull, merge, explored}
 use Rattle.model.proofs.Booleans.{and-left, and-right}
 use Rattle.model.proofs.Folds.{largest-le, LimitUpTo, smallest-le, set-each, getD-same}
 use Rattle.model.proofs.Availability.{zip-length}

@@ -2,14 +2,12 @@
 use Prim.Native.Nat.{ℕ, zero, suc, _≤_, min, max}
 use mathlib.Core.Path.{_≡_, refl, sym, _∙_}
 use mathlib.Core.Logic.{_⊎_, inl, inr}
-use mathlib.Core.Bool.{Bool, true, false, cond, _&&_, Bool·beq, false≢true}
+use mathlib.Core.Bool.{Bool, true, false, cond, false≢true}
 use mathlib.Core.List.{List, [], _∷_, zipWith}
 use native.Mathlib.Omega.{arith}
-use lib.Dec.{leb}
 use lib.ListN.{getD, length, replicate, length-set, length-replicate}
-use Rattle.model.specs.Folds.{everyTwo}
 use Rattle.model.specs.Jobs.{Job}
-use Rattle.model.specs.States.{Range, empty, range, isRange, State, finishOf, initial}
+use Rattle.model.specs.States.{Range, empty, range, State, finishOf, initial}
 use Rattle.model.specs.Edges.{earliestStart, earliestFinish, latestFinish, successor}
 use Rattle.model.specs.Exploration.{hull, sameStarted, mergeable, merge, stored}
 use Rattle.model.proofs.Booleans.{and-left}

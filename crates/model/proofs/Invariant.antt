@@ -13,11 +13,10 @@ use lib.Seq.{map-set-same}
 use borrow.Author.Tests.{lt-ltb, le-ltb}
 use Rattle.model.specs.Folds.{ind, count, member}
 use Rattle.model.specs.Jobs.{Job, job, predecessors, before}
-use Rattle.model.specs.Dispatch.{Scenario, Status, waiting, running, Moment, finishesAt, finished, ready, firstOf, ifSome, fill, steps, run}
+use Rattle.model.specs.Dispatch.{Scenario, waiting, running, Moment, finishesAt, finished, ready, firstOf, ifSome, fill, steps, run}
 use Rattle.model.specs.States.{Range, empty, range, State, initial}
 use Rattle.model.specs.Edges.{eligible, successor}
 use Rattle.model.specs.Guarantee.{WellFormed, Admissible, statusAt, Contains}
-use Rattle.model.proofs.Booleans.{ind-le}
 use Rattle.model.proofs.Folds.{count-set, count-below, count-none, set-each, getD-same, below-suc}
 use Rattle.model.proofs.Availability.{countUpTo, weighs-one}
 use Rattle.model.proofs.Enclosure.{Any, any-map, any-all, Wider, Shaped}

@@ -1,5 +1,5 @@
 -- Soundness (demand 3): where the analysis accepts, every run keeps to what it reports. Assumes nothing.
-use Prim.Native.Nat.{ℕ, zero, suc, _+_, _≤_, _<_, max}
+use Prim.Native.Nat.{ℕ, zero, suc, _≤_, _<_, max}
 use mathlib.Core.Path.{_≡_, refl, sym, ap, ap₂, _∙_}
 use mathlib.Core.Logic.{_⊎_, inl, inr, ⊎-elim}
 use mathlib.Core.Bool.{Bool, true, false, cond, false≢true, true≢false}
@@ -23,7 +23,7 @@ use Rattle.model.proofs.Folds.{count-length, at-largest, below-suc}
 use Rattle.model.proofs.Enclosure.{All, any-all, Shaped}
 use Rattle.model.proofs.Coverage.{climb, statesOf, Coverage, coverage}
 use Rattle.model.proofs.History.{Entry, unstarted, ran, entry, hasStarted, view, Finished, Begun}
-use Rattle.model.proofs.Starts.{Fits, Covers, fits-started, candidate-in, not-past-bound}
+use Rattle.model.proofs.Starts.{Covers, fits-started, candidate-in, not-past-bound}
 use Rattle.model.proofs.Invariant.{Fate, Fated, Served, After, run-after}
 use Rattle.model.proofs.Predecessors.{predecessor-earlier, bell-predecessor}
 
