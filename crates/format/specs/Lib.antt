@@ -3,3 +3,4 @@ pub mod Bytes
 pub mod Phrase
 pub mod Reading
 pub mod Rows
+pub mod Examples
