@@ -4,3 +4,5 @@ pub mod Phrase
 pub mod Reading
 pub mod Rows
 pub mod Examples
+pub mod Valid
+pub mod Writing

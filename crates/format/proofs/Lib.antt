@@ -1,0 +1,5 @@
+-- Laws of the phrase file's definitions.
+pub mod Tests
+pub mod Digits
+pub mod Records
+pub mod RoundTrip
