@@ -3,3 +3,5 @@ pub mod Tests
 pub mod Digits
 pub mod Records
 pub mod RoundTrip
+pub mod Given
+pub mod Sound

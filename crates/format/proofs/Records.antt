@@ -1,19 +1,19 @@
 -- A record that is written is read back. Assumes nothing.
-use Prim.Native.Nat.{ℕ, zero, suc, _+_, _-_, _*_, _/_, _%_, _≤_, _<_}
-use mathlib.Core.Path.{_≡_, refl, sym, ap, _∙_}
-use mathlib.Core.Bool.{Bool, true, false, _&&_}
-use mathlib.Core.List.{List, [], _∷_, _++_, append-assoc}
+use Prim.Native.Nat.{ℕ, _+_, _-_, _≤_, _<_}
+use mathlib.Core.Path.{_≡_, refl, ap, _∙_}
+use mathlib.Core.Bool.{true, _&&_}
+use mathlib.Core.List.{List, [], _++_}
 use mathlib.Core.Option.{none, some}
 use native.Mathlib.Omega.{arith}
-use lib.Dec.{leb, ltb}
-use lib.ListN.{length, take, drop, length-append}
+use lib.Dec.{leb}
+use lib.ListN.{length, length-append}
 use lib.Seq.{take-at}
 use borrow.Author.Tests.{leb-true, le-leb, lt-ltb}
-use Rattle.format.specs.Bytes.{byteAt, be16, be32, within}
+use Rattle.format.specs.Bytes.{byteAt, be32, within}
 use Rattle.format.specs.Phrase.{Bell, sounding, Note}
-use Rattle.format.specs.Reading.{Outcome, ok, bellIn, isTransposition, isExecutionRange, bellInRange, find, findFrom, bellRecord, areTimes, rises, listedIn, noteIn, noteFields, noteRecord}
+use Rattle.format.specs.Reading.{ok, bellIn, isTransposition, isExecutionRange, bellInRange, find, bellRecord, areTimes, rises, listedIn, noteIn, noteFields, noteRecord}
 use Rattle.format.specs.Valid.{ValidBell, ValidNote}
-use Rattle.format.specs.Writing.{digits, bellFile, noteFile}
+use Rattle.format.specs.Writing.{bellFile, noteFile}
 use Rattle.format.proofs.Tests.{and-l, and-r, within-true, true-within}
 use Rattle.format.proofs.Digits.{be16-digits, be32-digits}
 

@@ -1,17 +1,14 @@
 -- A sound file is never refused: the file of a valid phrase is read as that phrase. Assumes nothing.
-use Prim.Native.Nat.{ℕ, zero, suc, _+_, _-_, _*_, _≤_, _<_}
-use mathlib.Core.Path.{_≡_, refl, sym, ap, _∙_, subst}
-use mathlib.Core.Bool.{Bool, true, false, _&&_, _||_}
+use Prim.Native.Nat.{ℕ, _+_, _-_, _*_, _≤_, _<_}
+use mathlib.Core.Path.{_≡_, refl, sym, ap, _∙_}
 use mathlib.Core.List.{List, [], _∷_, _++_, append-assoc, append-nil}
 use native.Mathlib.Omega.{arith}
-use native.Mathlib.Numerals.{add-one}
-use lib.Dec.{leb, ltb, eqb}
-use lib.ListN.{length, getD, take, drop, length-append}
+use lib.ListN.{length, drop, length-append}
 use lib.Seq.{drop-at, getD-append-add}
 use borrow.Author.Tests.{le-leb, lt-leb, lt-ltb, eq-eqb}
-use Rattle.format.specs.Bytes.{byteAt, be32, within}
+use Rattle.format.specs.Bytes.{byteAt, be32}
 use Rattle.format.specs.Phrase.{Bell, Note, Phrase}
-use Rattle.format.specs.Reading.{Outcome, ok, _>>=_, _>>_, bellRecord, noteRecord, bellsFrom, notesFrom, bellsOf, notesOf, noteCountAt, reading}
+use Rattle.format.specs.Reading.{Outcome, ok, _>>=_, bellRecord, noteRecord, bellsFrom, notesFrom, bellsOf, notesOf, noteCountAt, reading}
 use Rattle.format.specs.Valid.{Each, ValidBell, ValidNote, Valid}
 use Rattle.format.specs.Writing.{digits, records, bellFile, noteFile, counted, written}
 use Rattle.format.proofs.Tests.{true-within}

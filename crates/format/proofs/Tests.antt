@@ -1,13 +1,13 @@
 -- What a test that holds says, and what an outcome that is no refusal says. Assumes nothing.
-use Prim.Native.Nat.{ℕ, suc, _+_, _-_, _≤_, _<_}
-use mathlib.Core.Path.{_≡_, refl, sym, ap, _∙_}
-use mathlib.Core.Bool.{Bool, true, false, cond, _&&_, _||_, true≢false, false≢true}
+use Prim.Native.Nat.{ℕ, _≤_}
+use mathlib.Core.Path.{_≡_, refl}
+use mathlib.Core.Bool.{Bool, true, false, _&&_, false≢true}
 use mathlib.Core.Option.{Option, none, some}
 use native.Mathlib.Omega.{arith}
-use lib.Dec.{leb, ltb, eqb}
+use lib.Dec.{leb}
 use borrow.Author.Tests.{leb-true, le-leb}
 use Rattle.format.specs.Bytes.{within}
-use Rattle.format.specs.Reading.{Outcome, ok, refused, _>>=_, _>>_, require, orRefuse, areTimes, latestTime, isExecutionRange, longestExecution}
+use Rattle.format.specs.Reading.{Outcome, ok, refused, _>>=_, _>>_, require, orRefuse, isNone}
 
 pub and-l : (a b : Bool) → (a && b) ≡ true → a ≡ true
 and-l true b e = refl
@@ -24,6 +24,10 @@ within-true low high x e = (leb-true low x (and-l (leb low x) (leb x high) e), l
 pub true-within : (low high x : ℕ) → (low ≤ x) × (x ≤ high) → within low high x ≡ true
 unfolding within
 true-within low high x h = simp (le-leb low x (h .0), le-leb x high (h .1))
+
+pub is-none : (o : Option ℕ) → isNone o ≡ true → o ≡ none
+is-none none e = refl
+is-none (some x) e = absurd (false≢true e)
 
 module _ {A : Type 0} {x : A} where
   never : {n at : ℕ} → refused n at ≡ ok x → ⊥
