@@ -5,3 +5,4 @@ pub mod Records
 pub mod RoundTrip
 pub mod Given
 pub mod Sound
+pub mod Analysis
