@@ -5,4 +5,6 @@ pub mod Records
 pub mod RoundTrip
 pub mod Given
 pub mod Sound
-pub mod Analysis
+pub mod Lookup
+pub mod Analysable
+pub mod WrittenBytes

@@ -10,53 +10,53 @@ use lib.Seq.{drop-drop, getD-drop}
 use borrow.Author.Tests.{leb-true, ltb-true, eqb-true, lt-leb}
 use Rattle.format.specs.Bytes.{byteAt, be32, within}
 use Rattle.format.specs.Phrase.{Bell, Note, Phrase}
-use Rattle.format.specs.Reading.{ok, bellRecord, noteRecord, bellsFrom, notesFrom, bellsOf, notesOf, noteCountAt, reading}
+use Rattle.format.specs.Reading.{countAt, headerBytes, coresAt, bellCountAt, bellsAt, bellBytes, mostCores, mostBells, mostNotes, ok, bellRecord, noteRecord, bellsFrom, notesFrom, bellsOf, notesOf, noteCountAt, reading}
 use Rattle.format.specs.Valid.{AreBytes, Each, ValidBell, ValidNote, Valid}
 use Rattle.format.specs.Writing.{digits, records, bellFile, noteFile, counted, written}
 use Rattle.format.proofs.Tests.{and-r, within-true, required, bound}
-use Rattle.format.proofs.Digits.{digits-be32}
-use Rattle.format.proofs.Given.{spelled, spelled-from, bell-given, note-given}
+use Rattle.format.proofs.Digits.{spelled, spelled-from, digits-be32}
+use Rattle.format.proofs.Given.{bell-given, note-given}
 
 drop-bytes : (at : ℕ) (s : List ℕ) → AreBytes s → AreBytes (drop at s)
 drop-bytes at s bytes i h = rw getD-drop (bytes (at + i) (omega (arith, length-drop at s)))
 
 -- Bells that are read after others: they are so many, valid, and stand in the file.
-pub record BellsGiven (s : List ℕ) (n at : ℕ) (before bells : List Bell) : Type 0 where
-  pub rest : List Bell
-  pub whole : before ++ rest ≡ bells
-  pub count : length rest ≡ n
-  pub valid : Each ValidBell before rest
-  pub file : drop at s ≡ records bellFile rest ++ drop (at + n * 7) s
+record BellsGiven (s : List ℕ) (n at : ℕ) (before bells : List Bell) : Type 0 where
+  rest : List Bell
+  whole : before ++ rest ≡ bells
+  count : length rest ≡ n
+  valid : Each ValidBell before rest
+  file : drop at s ≡ records bellFile rest ++ drop (at + n * bellBytes) s
 
-pub bells-given : (s : List ℕ) → AreBytes s → (n at : ℕ) (before bells : List Bell) → bellsFrom s n at before ≡ ok bells → BellsGiven s n at before bells
+bells-given : (s : List ℕ) → AreBytes s → (n at : ℕ) (before bells : List Bell) → bellsFrom s n at before ≡ ok bells → BellsGiven s n at before bells
 unfolding bellsFrom Each records
 bells-given s bytes zero at before bells e =
-    let k : at ≡ at + zero * 7 = omega arith in
+    let k : at ≡ at + zero * bellBytes = omega arith in
     let same : before ≡ bells = cc e in
     record { rest = []; whole = append-nil before ∙ same; count = refl; valid = tt; file = ap (λ (k : ℕ). drop k s) k }
 bells-given s bytes (suc n) at before bells e =
     let step = bound (bellRecord before at (drop at s)) e in
     let b : Bell = step .0 in
     let this = bell-given before at (drop at s) b (drop-bytes at s bytes) (step .1) in
-    let those = bells-given s bytes n (at + 7) (before ++ b ∷ []) bells (step .2) in
-    let k : at + 7 + n * 7 ≡ at + suc n * 7 = omega arith in
+    let those = bells-given s bytes n (at + bellBytes) (before ++ b ∷ []) bells (step .2) in
+    let k : at + bellBytes + n * bellBytes ≡ at + suc n * bellBytes = omega arith in
     record {
       rest = b ∷ those .rest;
       whole = sym (append-assoc before (b ∷ []) (those .rest)) ∙ those .whole;
       count = ap suc (those .count);
       valid = (this .valid, those .valid);
-      file = this .file ∙ ap (λ (r : List ℕ). bellFile b ++ r) (drop-drop 7 at s ∙ those .file ∙ ap (λ (k : ℕ). records bellFile (those .rest) ++ drop k s) k) ∙ sym (append-assoc (bellFile b) _ _);
+      file = this .file ∙ ap (λ (r : List ℕ). bellFile b ++ r) (drop-drop bellBytes at s ∙ those .file ∙ ap (λ (k : ℕ). records bellFile (those .rest) ++ drop k s) k) ∙ sym (append-assoc (bellFile b) _ _);
     }
 
 -- Notes that are read after others: they are so many, valid, and the rest of the file.
-pub record NotesGiven (s : List ℕ) (bells : List Bell) (n at : ℕ) (before notes : List Note) : Type 0 where
-  pub rest : List Note
-  pub whole : before ++ rest ≡ notes
-  pub count : length rest ≡ n
-  pub valid : Each (ValidNote bells) before rest
-  pub file : drop at s ≡ records noteFile rest
+record NotesGiven (s : List ℕ) (bells : List Bell) (n at : ℕ) (before notes : List Note) : Type 0 where
+  rest : List Note
+  whole : before ++ rest ≡ notes
+  count : length rest ≡ n
+  valid : Each (ValidNote bells) before rest
+  file : drop at s ≡ records noteFile rest
 
-pub notes-given : (s : List ℕ) → AreBytes s → (bells : List Bell) (n at : ℕ) (before notes : List Note) → notesFrom s bells n at before ≡ ok notes → NotesGiven s bells n at before notes
+notes-given : (s : List ℕ) → AreBytes s → (bells : List Bell) (n at : ℕ) (before notes : List Note) → notesFrom s bells n at before ≡ ok notes → NotesGiven s bells n at before notes
 unfolding notesFrom Each records
 notes-given s bytes bells zero at before notes e =
     let end = required (leb (length s) at) 3 at e in
@@ -80,38 +80,38 @@ notes-given s bytes bells (suc n) at before notes e =
 -- A file that is read: its header, its bells and its notes.
 record Given (s : List ℕ) (bells : List Bell) (notes : List Note) : Type 0 where
   version : byteAt s 0 ≡ 1
-  count : be32 s 1 ≡ length s - 5
-  cores : (1 ≤ byteAt s 5) × (byteAt s 5 ≤ 8)
-  bellRange : (1 ≤ byteAt s 6) × (byteAt s 6 ≤ 96)
-  bellCount : length bells ≡ byteAt s 6
+  count : be32 s countAt ≡ length s - headerBytes
+  cores : (1 ≤ byteAt s coresAt) × (byteAt s coresAt ≤ mostCores)
+  bellRange : (1 ≤ byteAt s bellCountAt) × (byteAt s bellCountAt ≤ mostBells)
+  bellCount : length bells ≡ byteAt s bellCountAt
   bellsValid : Each ValidBell [] bells
-  bellsFile : drop 7 s ≡ records bellFile bells ++ drop (noteCountAt s) s
+  bellsFile : drop bellsAt s ≡ records bellFile bells ++ drop (noteCountAt s) s
   long : noteCountAt s < length s
-  noteRange : byteAt s (noteCountAt s) ≤ 64
+  noteRange : byteAt s (noteCountAt s) ≤ mostNotes
   noteCount : length notes ≡ byteAt s (noteCountAt s)
   notesValid : Each (ValidNote bells) [] notes
   notesFile : drop (noteCountAt s + 1) s ≡ records noteFile notes
 
 abbrev phraseOf : List ℕ → List Bell → List Note → Phrase
-phraseOf s bells notes = record { version = byteAt s 0; cores = byteAt s 5; bells = bells; notes = notes }
+phraseOf s bells notes = record { version = byteAt s 0; cores = byteAt s coresAt; bells = bells; notes = notes }
 
 given : (s : List ℕ) (x : Phrase) → AreBytes s → reading s ≡ ok x → Given s (x .bells) (x .notes) × (phraseOf s (x .bells) (x .notes) ≡ x)
 unfolding reading bellsOf notesOf
 given s x bytes e =
     let version = required (leb (length s) 0 || eqb (byteAt s 0) 1) 1 0 e in
-    let count = required (leb 5 (length s) && eqb (be32 s 1) (length s - 5)) 2 0 (version .1) in
-    let core = required (ltb 5 (length s)) 3 5 (count .1) in
-    let cores = required (within 1 8 (byteAt s 5)) 4 5 (core .1) in
+    let count = required (leb headerBytes (length s) && eqb (be32 s countAt) (length s - headerBytes)) 2 0 (version .1) in
+    let core = required (ltb coresAt (length s)) 3 coresAt (count .1) in
+    let cores = required (within 1 mostCores (byteAt s coresAt)) 4 coresAt (core .1) in
     let bells = bound (bellsOf s) (cores .1) in
     let notes = bound (notesOf s (bells .0)) (bells .2) in
-    let a = required (ltb 6 (length s)) 3 6 (bells .1) in
-    let b = required (within 1 96 (byteAt s 6)) 5 6 (a .1) in
+    let a = required (ltb bellCountAt (length s)) 3 bellCountAt (bells .1) in
+    let b = required (within 1 mostBells (byteAt s bellCountAt)) 5 bellCountAt (a .1) in
     let c = required (ltb (noteCountAt s) (length s)) 3 (noteCountAt s) (notes .1) in
-    let d = required (leb (byteAt s (noteCountAt s)) 64) 8 (noteCountAt s) (c .1) in
+    let d = required (leb (byteAt s (noteCountAt s)) mostNotes) 8 (noteCountAt s) (c .1) in
     let long = ltb-true (noteCountAt s) (length s) (c .0) in
     let some : 0 < length s = omega arith in
     let right : eqb (byteAt s 0) 1 ≡ true = rw (lt-leb (length s) 0 some) at (version .0) in
-    let bs = bells-given s bytes (byteAt s 6) 7 [] (bells .0) (b .1) in
+    let bs = bells-given s bytes (byteAt s bellCountAt) bellsAt [] (bells .0) (b .1) in
     let ns = notes-given s bytes (bells .0) (byteAt s (noteCountAt s)) (noteCountAt s + 1) [] (notes .0) (d .1) in
     let same : phraseOf s (bells .0) (notes .0) ≡ x = cc (notes .2) in
     subst
@@ -119,14 +119,14 @@ given s x bytes e =
     same (
       record {
         version = eqb-true (byteAt s 0) 1 right;
-        count = eqb-true (be32 s 1) (length s - 5) (and-r (leb 5 (length s)) _ (count .0));
-        cores = within-true 1 8 (byteAt s 5) (cores .0);
-        bellRange = within-true 1 96 (byteAt s 6) (b .0);
+        count = eqb-true (be32 s countAt) (length s - headerBytes) (and-r (leb headerBytes (length s)) _ (count .0));
+        cores = within-true 1 mostCores (byteAt s coresAt) (cores .0);
+        bellRange = within-true 1 mostBells (byteAt s bellCountAt) (b .0);
         bellCount = rw (← bs .whole) (bs .count);
         bellsValid = rw (← bs .whole) (bs .valid);
         bellsFile = rw (← bs .whole) (bs .file);
         long = long;
-        noteRange = leb-true (byteAt s (noteCountAt s)) 64 (d .0);
+        noteRange = leb-true (byteAt s (noteCountAt s)) mostNotes (d .0);
         noteCount = rw (← ns .whole) (ns .count);
         notesValid = rw (← ns .whole) (ns .valid);
         notesFile = rw (← ns .whole) (ns .file);
@@ -153,19 +153,19 @@ pub written-back : (s : List ℕ) (x : Phrase) → AreBytes s → reading s ≡ 
 unfolding written be32
 written-back s x bytes e =
     let (g, same) = given s x bytes e in
-    let long : 7 < length s = omega (arith, g .long) in
+    let long : bellsAt < length s = omega (arith, g .long) in
     let K : ℕ = noteCountAt s in
     let notes : drop K s ≡ length (x .notes) ∷ records noteFile (x .notes) =
     spelled-from K 1 s (omega (arith, g .long)) ∙ (λ i. sym (g .noteCount) i ∷ g .notesFile i) in
-    let bells : drop 7 s ≡ records bellFile (x .bells) ++ length (x .notes) ∷ records noteFile (x .notes) =
+    let bells : drop bellsAt s ≡ records bellFile (x .bells) ++ length (x .notes) ∷ records noteFile (x .notes) =
     g .bellsFile ∙ ap (λ (r : List ℕ). records bellFile (x .bells) ++ r) notes in
-    let body : drop 5 s ≡ counted (phraseOf s (x .bells) (x .notes)) =
-    spelled-from 5 2 s (omega arith) ∙ (λ i. byteAt s 5 ∷ sym (g .bellCount) i ∷ bells i) in
-    let size : length (drop 5 s) ≡ be32 s 1 = length-drop 5 s ∙ sym (g .count) in
-    let count : digits 4 (be32 s 1) ≡ spelled 1 4 s = digits-be32 (byteAt s 1) (byteAt s 2) (byteAt s 3) (byteAt s 4) (bytes 1 (omega arith)) (bytes 2 (omega arith)) (bytes 3 (omega arith)) (bytes 4 (omega arith)) in
+    let body : drop headerBytes s ≡ counted (phraseOf s (x .bells) (x .notes)) =
+    spelled-from headerBytes 2 s (omega arith) ∙ (λ i. byteAt s coresAt ∷ sym (g .bellCount) i ∷ bells i) in
+    let size : length (drop headerBytes s) ≡ be32 s countAt = length-drop headerBytes s ∙ sym (g .count) in
+    let count : digits 4 (be32 s countAt) ≡ spelled countAt 4 s = digits-be32 s bytes countAt (omega arith) in
     subst
     (λ (y : Phrase). written y ≡ s)
     same
     (ap (λ (c : List ℕ). byteAt s 0 ∷ digits 4 (length c) ++ c) (sym body)
-    ∙ ap (λ (d : List ℕ). byteAt s 0 ∷ d ++ drop 5 s) (ap (digits 4) size ∙ count)
-    ∙ sym (spelled-from 0 5 s (omega arith)))
+    ∙ ap (λ (d : List ℕ). byteAt s 0 ∷ d ++ drop headerBytes s) (ap (digits 4) size ∙ count)
+    ∙ sym (spelled-from 0 headerBytes s (omega arith)))

@@ -5,4 +5,5 @@ pub mod Reading
 pub mod Rows
 pub mod Examples
 pub mod Valid
+pub mod Analysable
 pub mod Writing

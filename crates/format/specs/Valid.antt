@@ -1,16 +1,13 @@
--- What the rules of the file ask of a phrase, and what the analysis relies on. Assumes nothing.
-use Prim.Native.Nat.{ℕ, _+_, _≤_, _<_}
+-- What the rules of the file ask of a phrase. Assumes nothing.
+use Prim.Native.Nat.{ℕ, _≤_, _<_}
 use mathlib.Core.Path.{_≡_}
 use mathlib.Core.Bool.{true}
 use mathlib.Core.List.{List, [], _∷_, _++_}
 use mathlib.Core.Option.{none, some}
 use lib.ListN.{length}
-use Rattle.model.specs.Folds.{member}
-use Rattle.model.specs.Jobs.{Job, job, predecessors}
-use Rattle.model.specs.Guarantee.{WellFormed}
 use Rattle.format.specs.Bytes.{byteAt}
-use Rattle.format.specs.Phrase.{Bell, sounding, Note, Phrase, jobsOf}
-use Rattle.format.specs.Reading.{mostCores, mostBells, mostNotes, mostListed, longestExecution, latestTime, bellInRange, find, areTimes, rises}
+use Rattle.format.specs.Phrase.{Bell, sounding, Note, Phrase}
+use Rattle.format.specs.Reading.{mostCores, mostBells, mostNotes, mostListed, bellInRange, find, areTimes, rises}
 
 -- a number that one byte holds
 abbrev pub IsByte : ℕ → Type 0
@@ -48,19 +45,3 @@ pub record Valid (x : Phrase) : Type 0 where
   pub bells : Each ValidBell [] (x .bells)
   pub noteCount : length (x .notes) ≤ mostNotes
   pub notes : Each (ValidNote (x .bells)) [] (x .notes)
-
--- The fields of a job lie in their ranges.
-pub record InRanges (j : Job) : Type 0 where
-  pub execution : (1 ≤ j .leastExecution) × (j .leastExecution ≤ j .mostExecution) × (j .mostExecution ≤ longestExecution)
-  pub release : (j .earliestRelease ≤ j .latestRelease) × (j .latestRelease ≤ latestTime)
-  pub deadline : j .deadline ≤ latestTime
-
--- What the analysis relies on: counts and times are small, and predecessors few, and smaller than the job.
-pub record Analysable (x : Phrase) : Type 0 where
-  pub cores : (1 ≤ x .cores) × (x .cores ≤ mostCores)
-  pub jobCount : length (jobsOf x) ≤ mostNotes
-  pub ranges : (i : ℕ) → i < length (jobsOf x) → InRanges (job (jobsOf x) i)
-  pub earlier : (i : ℕ) → i < length (jobsOf x) → (w : ℕ) → member w (predecessors (jobsOf x) i) ≡ true → w < i
-  pub few : (i : ℕ) → i < length (jobsOf x) → length (predecessors (jobsOf x) i) ≤ mostListed + 1
-  -- the premises of demand 3
-  pub wellFormed : WellFormed (jobsOf x) (x .cores)
