@@ -2,9 +2,9 @@
 pub mod Tests
 pub mod Digits
 pub mod Records
-pub mod RoundTrip
 pub mod Given
 pub mod Sound
+pub mod RoundTrip
 pub mod Lookup
-pub mod Analysable
 pub mod WrittenBytes
+pub mod Analysable

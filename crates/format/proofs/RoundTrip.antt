@@ -1,6 +1,7 @@
--- A sound file is never refused: the file of a valid phrase is read as that phrase. Assumes nothing.
+-- A sound file is never refused: the file of a valid phrase is read as that phrase, and no other file is. Assumes nothing.
 use Prim.Native.Nat.{ℕ, _+_, _-_, _*_, _≤_, _<_}
 use mathlib.Core.Path.{_≡_, refl, sym, ap, _∙_}
+use mathlib.Core.Logic.{_↔_}
 use mathlib.Core.List.{List, [], _∷_, _++_, append-assoc, append-nil}
 use native.Mathlib.Omega.{arith}
 use lib.ListN.{length, drop, length-append}
@@ -9,10 +10,11 @@ use borrow.Author.Tests.{le-leb, lt-leb, lt-ltb, eq-eqb}
 use Rattle.format.specs.Bytes.{byteAt, be32}
 use Rattle.format.specs.Phrase.{Bell, Note, Phrase}
 use Rattle.format.specs.Reading.{countAt, headerBytes, coresAt, bellCountAt, bellsAt, bellBytes, noteBytes, mostCores, mostBells, mostNotes, mostListed, Outcome, ok, _>>=_, bellRecord, noteRecord, bellsFrom, notesFrom, bellsOf, notesOf, noteCountAt, reading}
-use Rattle.format.specs.Valid.{Each, ValidBell, ValidNote, Valid}
+use Rattle.format.specs.Valid.{AreBytes, Each, ValidBell, ValidNote, Valid}
 use Rattle.format.specs.Writing.{digits, records, bellFile, noteFile, counted, written}
 use Rattle.format.proofs.Tests.{true-within}
 use Rattle.format.proofs.Digits.{be32-digits}
+use Rattle.format.proofs.Sound.{sound, written-back}
 use Rattle.format.proofs.Records.{bell-length, bell-back, note-length, note-first, note-back}
 
 -- ---- the lengths
@@ -151,3 +153,7 @@ module _ (x : Phrase) (v : Valid x) where
       let long : coresAt < length (written x) = omega (arith, written-length, counted-length) in
       let count : be32 (written x) countAt ≡ length (written x) - headerBytes = omega (arith, count-right, written-length) in
       reading-good (written x) (x .bells) (x .notes) (v .version) long count (v .cores) bells-read notes-read
+
+-- Bytes are read as a phrase exactly if the phrase is valid and they are its file.
+pub exactly : (s : List ℕ) (x : Phrase) → AreBytes s → (reading s ≡ ok x) ↔ (Valid x × (written x ≡ s))
+exactly s x bytes = (λ e. (sound s x bytes e, written-back s x bytes e), λ h. rw (h .1) at (round-trip x (h .0)))

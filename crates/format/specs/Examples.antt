@@ -39,21 +39,23 @@ bell n t ca cb p = record { written = n; transposition = t; leastExecution = ca;
 abbrev note : ℕ → ℕ → ℕ → ℕ → ℕ → List ℕ → Note
 note key bell ra rb d waits = record { key = key; bell = bell; earliestRelease = ra; latestRelease = rb; deadline = d; listed = waits }
 
--- P's phrase, but for bell 1 and note 1
-abbrev likeP : Bell → Note → Phrase
-likeP b n =
-    record {
-      version = 1;
-      cores = 1;
-      bells = bell 60 0 2 2 1 ∷ b ∷ [];
-      notes = note 60 0 0 5 7 [] ∷ n ∷ [];
-    }
+abbrev phrase : List Bell → List Note → Outcome Phrase
+phrase bells notes = ok (record { version = 1; cores = 1; bells = bells; notes = notes })
+
+abbrev bell0 : Bell
+bell0 = bell 60 0 2 2 1
+
+abbrev bell1 : Bell
+bell1 = bell 62 12 4 4 2
+
+abbrev note0 : Note
+note0 = note 60 0 0 5 7 []
 
 abbrev row : List ℕ → Outcome Phrase → Case
 row f x = record { file = f; expected = x }
 
 abbrev phraseP : List Case
-phraseP = row fileP (ok (likeP (bell 62 12 4 4 2) (note 74 1 0 0 6 []))) ∷ []
+phraseP = row fileP (phrase (bell0 ∷ bell1 ∷ []) (note0 ∷ note 74 1 0 0 6 [] ∷ [])) ∷ []
 
 -- the examples of document 01's table
 abbrev refusals : List Case
@@ -95,23 +97,50 @@ ends =
     ∷ row (set fileP 4 0x2E ++ 0x00 ∷ []) (refused 3 50)
     ∷ []
 
--- the edges of a bell's ranges, and of the waits
-abbrev edges : List Case
-edges =
+-- the edges of the counts, and of a bell's ranges
+abbrev bells : List Case
+bells =
+    -- nine cores, and 97 bells
+    row (set fileP 5 0x09) (refused 4 5)
+    ∷ row (set fileP 6 0x61) (refused 5 6)
     -- transpositions of -12, and of 25 and -25
-    row (set (set fileP 15 0xF4) 37 0x32) (ok (likeP (bell 62 244 4 4 2) (note 50 1 0 0 6 [])))
+    ∷ row (set (set fileP 15 0xF4) 37 0x32) (phrase (bell0 ∷ bell 62 244 4 4 2 ∷ []) (note0 ∷ note 50 1 0 0 6 [] ∷ []))
     ∷ row (set fileP 15 0x19) (refused 6 14)
     ∷ row (set fileP 15 0xE7) (refused 6 14)
     -- both bells have the written key 60, and sound for two keys
-    ∷ row (set (set fileP 14 0x3C) 37 0x48) (ok (likeP (bell 60 12 4 4 2) (note 72 1 0 0 6 [])))
-    -- 119 is a key, but 119 + 12 is none
+    ∷ row (set (set fileP 14 0x3C) 37 0x48) (phrase (bell0 ∷ bell 60 12 4 4 2 ∷ []) (note0 ∷ note 72 1 0 0 6 [] ∷ []))
+    -- 119 and 12 are keys, but 119 + 12 and 12 - 1 are none
     ∷ row (set fileP 14 0x77) (refused 6 14)
+    ∷ row (set (set fileP 14 0x0C) 15 0xFF) (refused 6 14)
+    -- ca is 0; ca is 3 and cb 2; cb is 5001, and 5000
+    ∷ row (set fileP 10 0x00) (refused 6 7)
+    ∷ row (set fileP 10 0x03) (refused 6 7)
+    ∷ row (set (set fileP 11 0x13) 12 0x89) (refused 6 7)
+    ∷ row (set (set fileP 11 0x13) 12 0x88) (phrase (bell 60 0 2 5000 1 ∷ bell1 ∷ []) (note0 ∷ note 74 1 0 0 6 [] ∷ []))
+    ∷ []
+
+-- the edges of a note's times, and of its waits
+abbrev notes : List Case
+notes =
+    -- K is 0
+    row (set (cut 22 0x11) 21 0x00) (phrase (bell0 ∷ bell1 ∷ []) [])
+    -- note 0: rb is 3600001, and 3600000; d is 3600001
+    ∷ row (set (set (set fileP 29 0x36) 30 0xEE) 31 0x81) (refused 11 22)
+    ∷ row (set (set (set fileP 29 0x36) 30 0xEE) 31 0x80) (phrase (bell0 ∷ bell1 ∷ []) (note 60 0 0 3600000 7 [] ∷ note 74 1 0 0 6 [] ∷ []))
+    ∷ row (set (set (set fileP 33 0x36) 34 0xEE) 35 0x81) (refused 11 22)
+    -- note 1 is due before its ra
+    ∷ row (set (set fileP 41 0x09) 45 0x09) (phrase (bell0 ∷ bell1 ∷ []) (note0 ∷ note 74 1 9 9 6 [] ∷ []))
+    -- no bell and wrong times: 10 comes before 11
+    ∷ row (set (set fileP 23 0x3D) 27 0x06) (refused 10 22)
     -- note 1 lists job 0, which is also the nearest earlier job of its bell
-    ∷ row (listing 0x3C 0x00) (ok (likeP (bell 62 12 4 4 2) (note 60 0 0 0 6 (0 ∷ []))))
+    ∷ row (listing 0x3C 0x00) (phrase (bell0 ∷ bell1 ∷ []) (note0 ∷ note 60 0 0 0 6 (0 ∷ []) ∷ []))
+    -- note 1 lists job 0 twice, and lists five numbers
+    ∷ row (set (set fileP 4 0x2F) 36 0x0F ++ 0x00 ∷ 0x00 ∷ []) (refused 12 36)
+    ∷ row (set (set fileP 4 0x32) 36 0x12 ++ 0x00 ∷ 0x00 ∷ 0x00 ∷ 0x00 ∷ 0x00 ∷ []) (refused 9 36)
     ∷ []
 
 abbrev pub table : List Case
-table = phraseP ++ refusals ++ ends ++ edges
+table = phraseP ++ refusals ++ ends ++ bells ++ notes
 
 pub examples : map (λ (c : Case). reading (c .file)) table ≡ map (λ (c : Case). c .expected) table
 unfolding reading
