@@ -53,7 +53,9 @@ unfolding member
 append-below n w [] ys f g m = g m
 append-below n w (x ∷ xs) ys f g m = go (eqb w x) f m (append-below n w xs ys)
   where
-    go : (t : Bool) → (t || member w xs ≡ true → w < n) → t || member w (xs ++ ys) ≡ true → ((member w xs ≡ true → w < n) → (member w ys ≡ true → w < n) → member w (xs ++ ys) ≡ true → w < n) → w < n
+    go : (t : Bool) → (t || member w xs ≡ true → w < n) → t || member w (xs ++ ys) ≡ true
+        → ((member w xs ≡ true → w < n) → (member w ys ≡ true → w < n) → member w (xs ++ ys) ≡ true → w < n)
+        → w < n
     go true f h later = f refl
     go false f h later = later f g h
 
@@ -99,7 +101,8 @@ module _ (x : Phrase) (v : Valid x) (i : ℕ) (l : i < length (jobsOf x)) where
   unfolding predecessors
   few =
       let listed : length (job (jobsOf x) i .listed) ≤ mostListed = rw is-job (rule .few) in
-      omega (arith, length-append (job (jobsOf x) i .listed) (asList (nearest (jobsOf x) (job (jobsOf x) i .bell) i)), few-near (nearest (jobsOf x) (job (jobsOf x) i .bell) i))
+      let near : Option ℕ = nearest (jobsOf x) (job (jobsOf x) i .bell) i in
+      omega (arith, length-append (job (jobsOf x) i .listed) (asList near), few-near near)
 
 pub analysable : (x : Phrase) → Valid x → Analysable x
 analysable x v =

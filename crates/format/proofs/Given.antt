@@ -36,9 +36,8 @@ bell-given before at p b bytes e =
     let alone = required (isNone (find (sounding (bellIn p)) before)) 7 at (range .1) in
     let same : bellIn p ≡ b = cc (alone .1) in
     let l = leb-true bellBytes (length p) (long .0) in
-    let v : ValidBell before (bellIn p) = record { inRange = range .0; transposition = bytes 1 (omega arith); priority = bytes 6 (omega arith); alone = is-none _ (alone .0) } in
     subst (BellGiven before p) same record {
-      valid = v;
+      valid = record { inRange = range .0; transposition = bytes 1 (omega arith); priority = bytes 6 (omega arith); alone = is-none _ (alone .0) };
       file = spelled-from 0 bellBytes p l ∙ ap (λ (f : List ℕ). f ++ drop bellBytes p) (sym (bell-spelled p bytes l));
     }
 
@@ -75,7 +74,8 @@ module _ (p : List ℕ) (bytes : AreBytes p) (low : noteBytes ≤ byteAt p 0) (l
       ∙ sym (append-assoc head (listedIn p) _)
       ∙ ap (λ (f : List ℕ). f ++ drop (1 + byteAt p 0) p) (sym (note-spelled bell))
 
-pub note-given : (bells : List Bell) (before : List Note) (at : ℕ) (p : List ℕ) (n : Note) → AreBytes p → noteRecord bells (length before) at p ≡ ok n → NoteGiven bells before p n
+pub note-given : (bells : List Bell) (before : List Note) (at : ℕ) (p : List ℕ) (n : Note) → AreBytes p → noteRecord bells (length before) at p ≡ ok n
+    → NoteGiven bells before p n
 unfolding noteRecord
 note-given bells before at p n bytes e =
     let some = required (leb 1 (length p)) 3 at e in
@@ -87,8 +87,7 @@ note-given bells before at p n bytes e =
     let same : noteIn p (bell .0) ≡ n = cc (rise .1) in
     let w = within-true noteBytes (noteBytes + mostListed) (byteAt p 0) (size .0) in
     let l = ltb-true (byteAt p 0) (length p) (long .0) in
-    let v : ValidNote bells before (noteIn p (bell .0)) = record { sounds = bell .1; times = time .0; few = omega (arith, listed-length p bytes (w .0) l); rising = rise .0 } in
     subst (NoteGiven bells before p) same record {
-      valid = v;
+      valid = record { sounds = bell .1; times = time .0; few = omega (arith, listed-length p bytes (w .0) l); rising = rise .0 };
       file = note-whole p bytes (w .0) l (bell .0);
     }

@@ -23,7 +23,9 @@ executions : (least most : ℕ) → isExecutionRange least most ≡ true → (1 
 unfolding isExecutionRange
 executions least most e =
     let r : leb least most && leb most longestExecution ≡ true = and-r (leb 1 least) _ e in
-    (leb-true 1 least (and-l (leb 1 least) _ e), leb-true least most (and-l (leb least most) _ r), leb-true most longestExecution (and-r (leb least most) _ r))
+    let low = leb-true 1 least (and-l (leb 1 least) _ e) in
+    let order = leb-true least most (and-l (leb least most) _ r) in
+    (low, order, leb-true most longestExecution (and-r (leb least most) _ r))
 
 -- what a bell in range says of its keys and of its execution times
 pub record BellRanges (b : Bell) : Type 0 where
@@ -40,7 +42,8 @@ bell-ranges b e =
     let sounds = within-true lowestKey highestKey (sounding b) (and-l (isKey (sounding b)) _ r) in
     record { written = written .1; sounds = sounds .1; execution = executions (b .leastExecution) (b .mostExecution) (and-r (isKey (sounding b)) _ r) }
 
-bell-good : (before : List Bell) (at : ℕ) (p : List ℕ) → bellBytes ≤ length p → bellInRange (bellIn p) ≡ true → find (sounding (bellIn p)) before ≡ none → bellRecord before at p ≡ ok (bellIn p)
+bell-good : (before : List Bell) (at : ℕ) (p : List ℕ) → bellBytes ≤ length p → bellInRange (bellIn p) ≡ true → find (sounding (bellIn p)) before ≡ none
+    → bellRecord before at p ≡ ok (bellIn p)
 unfolding bellRecord
 bell-good before at p l e f = simp (le-leb bellBytes (length p) l, e, f)
 
@@ -72,20 +75,24 @@ pub times : (ra rb d : ℕ) → areTimes ra rb d ≡ true → (ra ≤ rb) × (rb
 unfolding areTimes
 times ra rb d e =
     let r : leb rb latestTime && leb d latestTime ≡ true = and-r (leb ra rb) _ e in
-    (leb-true ra rb (and-l (leb ra rb) _ e), leb-true rb latestTime (and-l (leb rb latestTime) _ r), leb-true d latestTime (and-r (leb rb latestTime) _ r))
+    let order = leb-true ra rb (and-l (leb ra rb) _ e) in
+    (order, leb-true rb latestTime (and-l (leb rb latestTime) _ r), leb-true d latestTime (and-r (leb rb latestTime) _ r))
 
-fields-good : (bells : List Bell) (own at : ℕ) (p : List ℕ) (bell : ℕ) → find (byteAt p 1) bells ≡ some bell → areTimes (be32 p 2) (be32 p 6) (be32 p 10) ≡ true → rises own 0 (listedIn p) ≡ true
+fields-good : (bells : List Bell) (own at : ℕ) (p : List ℕ) (bell : ℕ) → find (byteAt p 1) bells ≡ some bell
+    → areTimes (be32 p 2) (be32 p 6) (be32 p 10) ≡ true → rises own 0 (listedIn p) ≡ true
     → noteFields bells own at p ≡ ok (noteIn p bell)
 unfolding noteFields
 fields-good bells own at p bell f e g = simp (f, e, g)
 
-note-good : (bells : List Bell) (own at : ℕ) (p : List ℕ) → noteBytes ≤ byteAt p 0 → byteAt p 0 ≤ noteBytes + mostListed → byteAt p 0 < length p → noteRecord bells own at p ≡ noteFields bells own at p
+note-good : (bells : List Bell) (own at : ℕ) (p : List ℕ) → noteBytes ≤ byteAt p 0 → byteAt p 0 ≤ noteBytes + mostListed → byteAt p 0 < length p
+    → noteRecord bells own at p ≡ noteFields bells own at p
 unfolding noteRecord
 note-good bells own at p low high l =
     let some : 1 ≤ length p = omega arith in
     simp (le-leb 1 (length p) some, true-within noteBytes (noteBytes + mostListed) (byteAt p 0) (low, high), lt-ltb (byteAt p 0) (length p) l)
 
-note-read : (n : Note) → n .earliestRelease < 4294967296 → n .latestRelease < 4294967296 → n .deadline < 4294967296 → (more : List ℕ) → noteIn (noteFile n ++ more) (n .bell) ≡ n
+note-read : (n : Note) → n .earliestRelease < 4294967296 → n .latestRelease < 4294967296 → n .deadline < 4294967296 → (more : List ℕ)
+    → noteIn (noteFile n ++ more) (n .bell) ≡ n
 unfolding noteIn noteFile listedIn
 note-read n ra rb d more =
     λ i. record {

@@ -28,7 +28,8 @@ record BellsGiven (s : List ℕ) (n at : ℕ) (before bells : List Bell) : Type 
   valid : Each ValidBell before rest
   file : drop at s ≡ records bellFile rest ++ drop (at + n * bellBytes) s
 
-bells-given : (s : List ℕ) → AreBytes s → (n at : ℕ) (before bells : List Bell) → bellsFrom s n at before ≡ ok bells → BellsGiven s n at before bells
+bells-given : (s : List ℕ) → AreBytes s → (n at : ℕ) (before bells : List Bell) → bellsFrom s n at before ≡ ok bells
+    → BellsGiven s n at before bells
 unfolding bellsFrom Each records
 bells-given s bytes zero at before bells e =
     let k : at ≡ at + zero * bellBytes = omega arith in
@@ -40,12 +41,13 @@ bells-given s bytes (suc n) at before bells e =
     let this = bell-given before at (drop at s) b (drop-bytes at s bytes) (step .1) in
     let those = bells-given s bytes n (at + bellBytes) (before ++ b ∷ []) bells (step .2) in
     let k : at + bellBytes + n * bellBytes ≡ at + suc n * bellBytes = omega arith in
+    let after = drop-drop bellBytes at s ∙ those .file ∙ ap (λ (k : ℕ). records bellFile (those .rest) ++ drop k s) k in
     record {
       rest = b ∷ those .rest;
       whole = sym (append-assoc before (b ∷ []) (those .rest)) ∙ those .whole;
       count = ap suc (those .count);
       valid = (this .valid, those .valid);
-      file = this .file ∙ ap (λ (r : List ℕ). bellFile b ++ r) (drop-drop bellBytes at s ∙ those .file ∙ ap (λ (k : ℕ). records bellFile (those .rest) ++ drop k s) k) ∙ sym (append-assoc (bellFile b) _ _);
+      file = this .file ∙ ap (λ (r : List ℕ). bellFile b ++ r) after ∙ sym (append-assoc (bellFile b) _ _);
     }
 
 -- Notes that are read after others: they are so many, valid, and the rest of the file.
@@ -56,7 +58,8 @@ record NotesGiven (s : List ℕ) (bells : List Bell) (n at : ℕ) (before notes 
   valid : Each (ValidNote bells) before rest
   file : drop at s ≡ records noteFile rest
 
-notes-given : (s : List ℕ) → AreBytes s → (bells : List Bell) (n at : ℕ) (before notes : List Note) → notesFrom s bells n at before ≡ ok notes → NotesGiven s bells n at before notes
+notes-given : (s : List ℕ) → AreBytes s → (bells : List Bell) (n at : ℕ) (before notes : List Note) → notesFrom s bells n at before ≡ ok notes
+    → NotesGiven s bells n at before notes
 unfolding notesFrom Each records
 notes-given s bytes bells zero at before notes e =
     let end = required (leb (length s) at) 3 at e in
@@ -69,12 +72,13 @@ notes-given s bytes bells (suc n) at before notes e =
     let those = notes-given s bytes bells n (at + (1 + byteAt s at)) (before ++ m ∷ []) notes (step .2) in
     let k : at + 0 ≡ at = omega arith in
     let size : byteAt (drop at s) 0 ≡ byteAt s at = getD-drop at s 0 0 ∙ ap (byteAt s) k in
+    let after = drop-drop (1 + byteAt (drop at s) 0) at s ∙ ap (λ (k : ℕ). drop (at + (1 + k)) s) size ∙ those .file in
     record {
       rest = m ∷ those .rest;
       whole = sym (append-assoc before (m ∷ []) (those .rest)) ∙ those .whole;
       count = ap suc (those .count);
       valid = (this .valid, those .valid);
-      file = this .file ∙ ap (λ (r : List ℕ). noteFile m ++ r) (drop-drop (1 + byteAt (drop at s) 0) at s ∙ ap (λ (k : ℕ). drop (at + (1 + k)) s) size ∙ those .file);
+      file = this .file ∙ ap (λ (r : List ℕ). noteFile m ++ r) after;
     }
 
 -- A file that is read: its header, its bells and its notes.
@@ -137,10 +141,7 @@ given s x bytes e =
 pub sound : (s : List ℕ) (x : Phrase) → AreBytes s → reading s ≡ ok x → Valid x
 sound s x bytes e =
     let (g, same) = given s x bytes e in
-    subst
-    Valid
-    same
-    record {
+    subst Valid same record {
       version = g .version;
       cores = g .cores;
       bellCount = omega (arith, g .bellRange, g .bellCount);
@@ -149,23 +150,26 @@ sound s x bytes e =
       notes = g .notesValid;
     }
 
+module _ (s : List ℕ) (bells : List Bell) (notes : List Note) (g : Given s bells notes) where
+  counted-back : drop headerBytes s ≡ counted (phraseOf s bells notes)
+  unfolding counted
+  counted-back =
+      let long : bellsAt < length s = omega (arith, g .long) in
+      let after = spelled-from (noteCountAt s) 1 s (omega (arith, g .long)) ∙ (λ i. sym (g .noteCount) i ∷ g .notesFile i) in
+      let rest = g .bellsFile ∙ ap (λ (r : List ℕ). records bellFile bells ++ r) after in
+      spelled-from headerBytes 2 s (omega arith) ∙ (λ i. byteAt s coresAt ∷ sym (g .bellCount) i ∷ rest i)
+
+  file-back : AreBytes s → written (phraseOf s bells notes) ≡ s
+  unfolding written
+  file-back bytes =
+      let long : bellsAt < length s = omega (arith, g .long) in
+      let size : length (drop headerBytes s) ≡ be32 s countAt = length-drop headerBytes s ∙ sym (g .count) in
+      let count : digits 4 (length (drop headerBytes s)) ≡ spelled countAt 4 s = ap (digits 4) size ∙ digits-be32 s bytes countAt (omega arith) in
+      ap (λ (c : List ℕ). byteAt s 0 ∷ digits 4 (length c) ++ c) (sym counted-back)
+      ∙ ap (λ (d : List ℕ). byteAt s 0 ∷ d ++ drop headerBytes s) count
+      ∙ sym (spelled-from 0 headerBytes s (omega arith))
+
 pub written-back : (s : List ℕ) (x : Phrase) → AreBytes s → reading s ≡ ok x → written x ≡ s
-unfolding written be32
 written-back s x bytes e =
     let (g, same) = given s x bytes e in
-    let long : bellsAt < length s = omega (arith, g .long) in
-    let K : ℕ = noteCountAt s in
-    let notes : drop K s ≡ length (x .notes) ∷ records noteFile (x .notes) =
-    spelled-from K 1 s (omega (arith, g .long)) ∙ (λ i. sym (g .noteCount) i ∷ g .notesFile i) in
-    let bells : drop bellsAt s ≡ records bellFile (x .bells) ++ length (x .notes) ∷ records noteFile (x .notes) =
-    g .bellsFile ∙ ap (λ (r : List ℕ). records bellFile (x .bells) ++ r) notes in
-    let body : drop headerBytes s ≡ counted (phraseOf s (x .bells) (x .notes)) =
-    spelled-from headerBytes 2 s (omega arith) ∙ (λ i. byteAt s coresAt ∷ sym (g .bellCount) i ∷ bells i) in
-    let size : length (drop headerBytes s) ≡ be32 s countAt = length-drop headerBytes s ∙ sym (g .count) in
-    let count : digits 4 (be32 s countAt) ≡ spelled countAt 4 s = digits-be32 s bytes countAt (omega arith) in
-    subst
-    (λ (y : Phrase). written y ≡ s)
-    same
-    (ap (λ (c : List ℕ). byteAt s 0 ∷ digits 4 (length c) ++ c) (sym body)
-    ∙ ap (λ (d : List ℕ). byteAt s 0 ∷ d ++ drop headerBytes s) (ap (digits 4) size ∙ count)
-    ∙ sym (spelled-from 0 headerBytes s (omega arith)))
+    rw same at (file-back s (x .bells) (x .notes) g bytes)
