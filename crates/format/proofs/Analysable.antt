@@ -18,8 +18,8 @@ use Rattle.format.specs.Reading.{mostListed, rises}
 use Rattle.format.specs.Rows.{mostPredecessors}
 use Rattle.format.specs.Valid.{ValidNote, Valid}
 use Rattle.format.specs.Analysable.{InRanges, Analysable}
-use Rattle.format.proofs.Tests.{and-l, and-r, or-cases}
-use Rattle.format.proofs.Lookup.{noNote, each-at, bell-of}
+use Rattle.format.proofs.Outcomes.{and-l, and-r, or-cases}
+use Rattle.format.proofs.ValidLists.{noNote, each-at, bell-of}
 use Rattle.format.proofs.Records.{bell-ranges, times}
 
 getD-map : {A B : Type 0} (f : A → B) (xs : List A) (i : ℕ) (d : A) (e : B) → i < length xs → getD (map f xs) i e ≡ f (getD xs i d)

@@ -1,10 +1,10 @@
 -- Laws of the phrase file's definitions.
-pub mod Tests
+pub mod Outcomes
 pub mod Digits
 pub mod Records
 pub mod Given
 pub mod Sound
 pub mod RoundTrip
-pub mod Lookup
+pub mod ValidLists
 pub mod WrittenBytes
 pub mod Analysable
