@@ -18,7 +18,7 @@ use Rattle.format.specs.Reading.{mostListed, rises}
 use Rattle.format.specs.Rows.{mostPredecessors}
 use Rattle.format.specs.Valid.{ValidNote, Valid}
 use Rattle.format.specs.Analysable.{InRanges, Analysable}
-use Rattle.format.proofs.Outcomes.{and-l, and-r, or-cases}
+use Rattle.format.proofs.Passed.{and-l, and-r, or-cases}
 use Rattle.format.proofs.ValidLists.{noNote, each-at, bell-of}
 use Rattle.format.proofs.Records.{bell-ranges, times}
 

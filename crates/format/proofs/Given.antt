@@ -13,7 +13,7 @@ use Rattle.format.specs.Phrase.{Bell, sounding, Note}
 use Rattle.format.specs.Reading.{bellBytes, noteBytes, mostListed, ok, isNone, bellIn, bellInRange, find, bellRecord, areTimes, rises, listedIn, noteIn, noteRecord}
 use Rattle.format.specs.Valid.{AreBytes, ValidBell, ValidNote}
 use Rattle.format.specs.Writing.{bellFile, noteFile}
-use Rattle.format.proofs.Outcomes.{within-true, is-none, required, found}
+use Rattle.format.proofs.Passed.{within-true, is-none, required, found}
 use Rattle.format.proofs.Digits.{spelled, spelled-from, digits-be16, digits-be32}
 
 -- A bell record that is read holds a bell that the rules allow, and is that bell's record.

@@ -1,5 +1,5 @@
 -- Laws of the phrase file's definitions.
-pub mod Outcomes
+pub mod Passed
 pub mod Digits
 pub mod Records
 pub mod Given

@@ -14,7 +14,7 @@ use Rattle.format.specs.Phrase.{Bell, sounding, Note}
 use Rattle.format.specs.Reading.{bellBytes, noteBytes, mostListed, lowestKey, highestKey, longestExecution, latestTime, ok, bellIn, isTransposition, isExecutionRange, bellInRange, find, bellRecord, areTimes, rises, listedIn, noteIn, noteFields, noteRecord}
 use Rattle.format.specs.Valid.{ValidBell, ValidNote}
 use Rattle.format.specs.Writing.{bellFile, noteFile}
-use Rattle.format.proofs.Outcomes.{and-l, and-r, within-true, true-within}
+use Rattle.format.proofs.Passed.{and-l, and-r, within-true, true-within}
 use Rattle.format.proofs.Digits.{be16-digits, be32-digits}
 
 -- ---- a bell

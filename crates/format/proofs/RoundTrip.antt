@@ -12,7 +12,7 @@ use Rattle.format.specs.Phrase.{Bell, Note, Phrase}
 use Rattle.format.specs.Reading.{countAt, headerBytes, coresAt, bellCountAt, bellsAt, bellBytes, noteBytes, mostCores, mostBells, mostNotes, mostListed, Outcome, ok, _>>=_, bellRecord, noteRecord, bellsFrom, notesFrom, bellsOf, notesOf, noteCountAt, reading}
 use Rattle.format.specs.Valid.{AreBytes, Each, ValidBell, ValidNote, Valid}
 use Rattle.format.specs.Writing.{digits, records, bellFile, noteFile, counted, written}
-use Rattle.format.proofs.Outcomes.{true-within}
+use Rattle.format.proofs.Passed.{true-within}
 use Rattle.format.proofs.Digits.{be32-digits}
 use Rattle.format.proofs.Sound.{sound, written-back}
 use Rattle.format.proofs.Records.{bell-length, bell-back, note-length, note-first, note-back}

@@ -13,7 +13,7 @@ use Rattle.format.specs.Phrase.{Bell, Note, Phrase}
 use Rattle.format.specs.Reading.{countAt, headerBytes, coresAt, bellCountAt, bellsAt, bellBytes, mostCores, mostBells, mostNotes, ok, bellRecord, noteRecord, bellsFrom, notesFrom, bellsOf, notesOf, noteCountAt, reading}
 use Rattle.format.specs.Valid.{AreBytes, Each, ValidBell, ValidNote, Valid}
 use Rattle.format.specs.Writing.{digits, records, bellFile, noteFile, counted, written}
-use Rattle.format.proofs.Outcomes.{and-r, within-true, required, bound}
+use Rattle.format.proofs.Passed.{and-r, within-true, required, bound}
 use Rattle.format.proofs.Digits.{spelled, spelled-from, digits-be32}
 use Rattle.format.proofs.Given.{bell-given, note-given}
 

@@ -13,7 +13,7 @@ use Rattle.format.specs.Phrase.{Bell, Note, Phrase, noBell, bellOf}
 use Rattle.format.specs.Reading.{noteBytes, rises}
 use Rattle.format.specs.Valid.{IsByte, AreBytes, Each, ValidBell, ValidNote, Valid}
 use Rattle.format.specs.Writing.{digits, records, bellFile, noteFile, counted, written}
-use Rattle.format.proofs.Outcomes.{and-l, and-r}
+use Rattle.format.proofs.Passed.{and-l, and-r}
 use Rattle.format.proofs.Records.{bell-ranges}
 use Rattle.format.proofs.ValidLists.{noNote, each-at, bell-of}
 
