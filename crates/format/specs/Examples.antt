@@ -83,7 +83,7 @@ ends =
     -- m is missing
     ∷ row (cut 5 0x00) (refused 3 5)
     -- a bell record is cut: 3 comes before 6 and 7
-    ∷ row (cut 8 0x03) (refused 3 7)
+    ∷ row (set (cut 8 0x03) 7 0x0B) (refused 3 7)
     ∷ row (cut 20 0x0F) (refused 3 14)
     -- K is missing
     ∷ row (cut 21 0x10) (refused 3 21)
