@@ -1,0 +1,116 @@
+-- The jobs of a valid phrase are what the analysis relies on. Assumes nothing.
+use Prim.Native.Nat.{ℕ, zero, suc, _+_, _≤_, _<_}
+use mathlib.Core.Path.{_≡_, refl, sym, subst}
+use mathlib.Core.Logic.{⊎-elim}
+use mathlib.Core.Bool.{Bool, true, false, cond, _||_, false≢true}
+use mathlib.Core.List.{List, [], _∷_, _++_, map}
+use mathlib.Core.Option.{Option, none, some}
+use native.Mathlib.Omega.{arith}
+use native.Mathlib.Nat.{not-suc-le-zero, le-of-suc-le-suc}
+use lib.Dec.{leb, ltb, eqb}
+use lib.ListN.{length, getD, take, length-append, length-map}
+use lib.Seq.{length-take-le}
+use borrow.Author.Tests.{ltb-true, eqb-true}
+use Rattle.model.specs.Folds.{member}
+use Rattle.model.specs.Jobs.{Job, job, nearest, asList, predecessors}
+use Rattle.format.specs.Phrase.{Note, Phrase, bellOf, jobOf, jobsOf}
+use Rattle.format.specs.Reading.{mostListed, rises}
+use Rattle.format.specs.Rows.{mostPredecessors}
+use Rattle.format.specs.Valid.{ValidNote, Valid}
+use Rattle.format.specs.Analysable.{InRanges, Analysable}
+use Rattle.format.proofs.Passed.{and-l, and-r, or-cases}
+use Rattle.format.proofs.ValidLists.{noNote, each-at, bell-of}
+use Rattle.format.proofs.Records.{bell-ranges, times}
+
+getD-map : {A B : Type 0} (f : A → B) (xs : List A) (i : ℕ) (d : A) (e : B) → i < length xs → getD (map f xs) i e ≡ f (getD xs i d)
+getD-map f [] i d e l = absurd (not-suc-le-zero l)
+getD-map f (x ∷ xs) zero d e l = refl
+getD-map f (x ∷ xs) (suc i) d e l = getD-map f xs i d e (le-of-suc-le-suc l)
+
+-- ---- predecessors are smaller than the job, and few
+
+rises-below : (own low : ℕ) (ws : List ℕ) → rises own low ws ≡ true → (w : ℕ) → member w ws ≡ true → w < own
+unfolding rises member
+rises-below own low [] e w m = absurd (false≢true m)
+rises-below own low (x ∷ xs) e w m =
+    let rest = and-r (leb low x) _ e in
+    ⊎-elim
+    (λ q. omega (arith, eqb-true w x q, ltb-true x own (and-l (ltb x own) _ rest)))
+    (λ h. rises-below own (x + 1) xs (and-r (ltb x own) _ rest) w h)
+    (or-cases (eqb w x) (member w xs) m)
+
+nearest-below : (js : List Job) (bell n w : ℕ) → member w (asList (nearest js bell n)) ≡ true → w < n
+unfolding nearest member
+nearest-below js bell zero w m = absurd (false≢true m)
+nearest-below js bell (suc n) w m = go (eqb (job js n .bell) bell) m (nearest-below js bell n w)
+  where
+    go : (t : Bool) → member w (asList (cond t (some n) (nearest js bell n))) ≡ true → (member w (asList (nearest js bell n)) ≡ true → w < n) → w < suc n
+    go true h later = ⊎-elim (λ q. omega (arith, eqb-true w n q)) (λ q. absurd (false≢true q)) (or-cases (eqb w n) false h)
+    go false h later = omega (arith, later h)
+
+append-below : (n w : ℕ) (xs ys : List ℕ) → (member w xs ≡ true → w < n) → (member w ys ≡ true → w < n) → member w (xs ++ ys) ≡ true → w < n
+unfolding member
+append-below n w [] ys f g m = g m
+append-below n w (x ∷ xs) ys f g m = go (eqb w x) f m (append-below n w xs ys)
+  where
+    go : (t : Bool) → (t || member w xs ≡ true → w < n) → t || member w (xs ++ ys) ≡ true
+        → ((member w xs ≡ true → w < n) → (member w ys ≡ true → w < n) → member w (xs ++ ys) ≡ true → w < n)
+        → w < n
+    go true f h later = f refl
+    go false f h later = later f g h
+
+few-near : (o : Option ℕ) → length (asList o) ≤ 1
+few-near none = omega arith
+few-near (some x) = omega arith
+
+-- ---- the jobs
+
+module _ (x : Phrase) (v : Valid x) (i : ℕ) (l : i < length (jobsOf x)) where
+  note : Note
+  note = getD (x .notes) i noNote
+
+  inside : i < length (x .notes)
+  inside = omega (arith, length-map (x .notes) (jobOf (x .bells)))
+
+  is-job : job (jobsOf x) i ≡ jobOf (x .bells) note
+  unfolding note
+  is-job = getD-map (jobOf (x .bells)) (x .notes) i noNote _ inside
+
+  rule : ValidNote (x .bells) (take i (x .notes)) note
+  unfolding note
+  rule = each-at (ValidNote (x .bells)) [] (x .notes) (v .notes) i noNote inside
+
+  own : length (take i (x .notes)) ≡ i
+  own = length-take-le i (x .notes) (omega (arith, inside))
+
+  ranges : InRanges (job (jobsOf x) i)
+  ranges =
+      let bell = bell-of (x .bells) (v .bells) (note .key) (note .bell) (rule .sounds) in
+      let b = bell-ranges (bellOf (x .bells) note) (bell .0) in
+      let t = times (note .earliestRelease) (note .latestRelease) (note .deadline) (rule .times) in
+      subst InRanges (sym is-job) record { execution = b .execution; release = (t .0, t .1); deadline = t .2 }
+
+  listed-earlier : (w : ℕ) → member w (job (jobsOf x) i .listed) ≡ true → w < i
+  listed-earlier w m = rises-below i 0 (note .listed) (rw own at (rule .rising)) w (rw is-job at m)
+
+  earlier : (w : ℕ) → member w (predecessors (jobsOf x) i) ≡ true → w < i
+  unfolding predecessors
+  earlier w = append-below i w (job (jobsOf x) i .listed) _ (listed-earlier w) (nearest-below (jobsOf x) _ i w)
+
+  few : length (predecessors (jobsOf x) i) ≤ mostPredecessors
+  unfolding predecessors
+  few =
+      let listed : length (job (jobsOf x) i .listed) ≤ mostListed = rw is-job (rule .few) in
+      let near : Option ℕ = nearest (jobsOf x) (job (jobsOf x) i .bell) i in
+      omega (arith, length-append (job (jobsOf x) i .listed) (asList near), few-near near)
+
+pub analysable : (x : Phrase) → Valid x → Analysable x
+analysable x v =
+    record {
+      cores = v .cores;
+      jobCount = omega (arith, v .noteCount, length-map (x .notes) (jobOf (x .bells)));
+      ranges = ranges x v;
+      earlier = earlier x v;
+      few = few x v;
+      wellFormed = record { cores = v .cores .0; lasts = λ i l. ranges x v i l .execution .0; earlier = listed-earlier x v };
+    }

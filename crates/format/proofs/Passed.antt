@@ -1,0 +1,51 @@
+-- What a test that holds says, and what an outcome that is no refusal says. Assumes nothing.
+use Prim.Native.Nat.{ℕ, _≤_}
+use mathlib.Core.Path.{_≡_, refl}
+use mathlib.Core.Bool.{Bool, true, false, _&&_, _||_, false≢true}
+use mathlib.Core.Logic.{_⊎_, inl, inr}
+use mathlib.Core.Option.{Option, none, some}
+use native.Mathlib.Omega.{arith}
+use lib.Dec.{leb}
+use borrow.Author.Tests.{leb-true, le-leb}
+use Rattle.format.specs.Bytes.{within}
+use Rattle.format.specs.Reading.{Outcome, ok, refused, _>>=_, _>>_, require, orRefuse, isNone}
+
+pub and-l : (a b : Bool) → (a && b) ≡ true → a ≡ true
+and-l true b e = refl
+and-l false b e = e
+
+pub and-r : (a b : Bool) → (a && b) ≡ true → b ≡ true
+and-r true b e = e
+and-r false b e = absurd (false≢true e)
+
+pub or-cases : (a b : Bool) → (a || b) ≡ true → (a ≡ true) ⊎ (b ≡ true)
+or-cases true b e = inl refl
+or-cases false b e = inr e
+
+pub within-true : (low high x : ℕ) → within low high x ≡ true → (low ≤ x) × (x ≤ high)
+unfolding within
+within-true low high x e = (leb-true low x (and-l (leb low x) (leb x high) e), leb-true x high (and-r (leb low x) (leb x high) e))
+
+pub true-within : (low high x : ℕ) → (low ≤ x) × (x ≤ high) → within low high x ≡ true
+unfolding within
+true-within low high x h = simp (le-leb low x (h .0), le-leb x high (h .1))
+
+pub is-none : (o : Option ℕ) → isNone o ≡ true → o ≡ none
+is-none none e = refl
+is-none (some x) e = absurd (false≢true e)
+
+module _ {A : Type 0} {x : A} where
+  never : {n at : ℕ} → refused n at ≡ ok x → ⊥
+  never e = let z : _≡_ {A = ℕ} 0 1 = cc in omega arith
+
+  pub required : (b : Bool) (n at : ℕ) {k : Outcome A} → _>>_ (require b n at) k ≡ ok x → (b ≡ true) × (k ≡ ok x)
+  required true n at e = (refl, e)
+  required false n at e = absurd (never e)
+
+  pub bound : {B : Type 0} (o : Outcome B) {k : B → Outcome A} → _>>=_ o k ≡ ok x → (b : B) × (o ≡ ok b) × (k b ≡ ok x)
+  bound (ok b) e = (b, refl, e)
+  bound (refused n at) e = absurd (never e)
+
+  pub found : (o : Option ℕ) (n at : ℕ) {k : ℕ → Outcome A} → _>>=_ (orRefuse o n at) k ≡ ok x → (b : ℕ) × (o ≡ some b) × (k b ≡ ok x)
+  found (some b) n at e = (b, refl, e)
+  found none n at e = absurd (never e)

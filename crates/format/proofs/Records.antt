@@ -1,0 +1,133 @@
+-- A record that is written is read back. Assumes nothing.
+use Prim.Native.Nat.{ℕ, _+_, _-_, _≤_, _<_}
+use mathlib.Core.Path.{_≡_, refl, ap, _∙_}
+use mathlib.Core.Bool.{Bool, true, _&&_}
+use mathlib.Core.List.{List, [], _++_}
+use mathlib.Core.Option.{none, some}
+use native.Mathlib.Omega.{arith}
+use lib.Dec.{leb}
+use lib.ListN.{length, length-append}
+use lib.Seq.{take-at}
+use borrow.Author.Tests.{leb-true, le-leb, lt-ltb}
+use Rattle.format.specs.Bytes.{byteAt, be32, within}
+use Rattle.format.specs.Phrase.{Bell, sounding, Note}
+use Rattle.format.specs.Reading.{bellBytes, noteBytes, mostListed, lowestKey, highestKey, longestExecution, latestTime, ok, bellIn, isTransposition, isExecutionRange, bellInRange, find, bellRecord, areTimes, rises, listedIn, noteIn, noteFields, noteRecord}
+use Rattle.format.specs.Valid.{ValidBell, ValidNote}
+use Rattle.format.specs.Writing.{bellFile, noteFile}
+use Rattle.format.proofs.Passed.{and-l, and-r, within-true, true-within}
+use Rattle.format.proofs.Digits.{be16-digits, be32-digits}
+
+-- ---- a bell
+
+executions : (least most : ℕ) → isExecutionRange least most ≡ true → (1 ≤ least) × (least ≤ most) × (most ≤ longestExecution)
+unfolding isExecutionRange
+executions least most e =
+    let r : leb least most && leb most longestExecution ≡ true = and-r (leb 1 least) _ e in
+    let low = leb-true 1 least (and-l (leb 1 least) _ e) in
+    let order = leb-true least most (and-l (leb least most) _ r) in
+    (low, order, leb-true most longestExecution (and-r (leb least most) _ r))
+
+-- what a bell in range says of its keys and of its execution times
+pub record BellRanges (b : Bell) : Type 0 where
+  pub written : b .written ≤ highestKey
+  pub sounds : sounding b ≤ highestKey
+  pub execution : (1 ≤ b .leastExecution) × (b .leastExecution ≤ b .mostExecution) × (b .mostExecution ≤ longestExecution)
+
+pub bell-ranges : (b : Bell) → bellInRange b ≡ true → BellRanges b
+unfolding bellInRange
+bell-ranges b e =
+    let isKey : ℕ → Bool = within lowestKey highestKey in
+    let r = and-r (isTransposition (b .transposition)) _ (and-r (isKey (b .written)) _ e) in
+    let written = within-true lowestKey highestKey (b .written) (and-l (isKey (b .written)) _ e) in
+    let sounds = within-true lowestKey highestKey (sounding b) (and-l (isKey (sounding b)) _ r) in
+    record { written = written .1; sounds = sounds .1; execution = executions (b .leastExecution) (b .mostExecution) (and-r (isKey (sounding b)) _ r) }
+
+bell-good : (before : List Bell) (at : ℕ) (p : List ℕ) → bellBytes ≤ length p → bellInRange (bellIn p) ≡ true → find (sounding (bellIn p)) before ≡ none
+    → bellRecord before at p ≡ ok (bellIn p)
+unfolding bellRecord
+bell-good before at p l e f = simp (le-leb bellBytes (length p) l, e, f)
+
+bell-read : (b : Bell) → b .leastExecution < 65536 → b .mostExecution < 65536 → (more : List ℕ) → bellIn (bellFile b ++ more) ≡ b
+unfolding bellIn bellFile
+bell-read b ca cb more =
+    λ i. record {
+      written = b .written;
+      transposition = b .transposition;
+      leastExecution = be16-digits (b .leastExecution) ca [] i;
+      mostExecution = be16-digits (b .mostExecution) cb [] i;
+      priority = b .priority;
+    }
+
+pub bell-length : (b : Bell) → length (bellFile b) ≡ bellBytes
+unfolding bellFile
+bell-length b = refl
+
+pub bell-back : (before : List Bell) (b : Bell) → ValidBell before b → (at : ℕ) (more : List ℕ) → bellRecord before at (bellFile b ++ more) ≡ ok b
+bell-back before b v at more =
+    let r = bell-ranges b (v .inRange) in
+    let same : bellIn (bellFile b ++ more) ≡ b = bell-read b (omega arith) (omega arith) more in
+    let long : bellBytes ≤ length (bellFile b ++ more) = omega (arith, bell-length b, length-append (bellFile b) more) in
+    bell-good before at (bellFile b ++ more) long (ap bellInRange same ∙ v .inRange) (ap (λ (c : Bell). find (sounding c) before) same ∙ v .alone) ∙ ap ok same
+
+-- ---- a note
+
+pub times : (ra rb d : ℕ) → areTimes ra rb d ≡ true → (ra ≤ rb) × (rb ≤ latestTime) × (d ≤ latestTime)
+unfolding areTimes
+times ra rb d e =
+    let r : leb rb latestTime && leb d latestTime ≡ true = and-r (leb ra rb) _ e in
+    let order = leb-true ra rb (and-l (leb ra rb) _ e) in
+    (order, leb-true rb latestTime (and-l (leb rb latestTime) _ r), leb-true d latestTime (and-r (leb rb latestTime) _ r))
+
+fields-good : (bells : List Bell) (own at : ℕ) (p : List ℕ) (bell : ℕ) → find (byteAt p 1) bells ≡ some bell
+    → areTimes (be32 p 2) (be32 p 6) (be32 p 10) ≡ true → rises own 0 (listedIn p) ≡ true
+    → noteFields bells own at p ≡ ok (noteIn p bell)
+unfolding noteFields
+fields-good bells own at p bell f e g = simp (f, e, g)
+
+note-good : (bells : List Bell) (own at : ℕ) (p : List ℕ) → noteBytes ≤ byteAt p 0 → byteAt p 0 ≤ noteBytes + mostListed → byteAt p 0 < length p
+    → noteRecord bells own at p ≡ noteFields bells own at p
+unfolding noteRecord
+note-good bells own at p low high l =
+    let some : 1 ≤ length p = omega arith in
+    simp (le-leb 1 (length p) some, true-within noteBytes (noteBytes + mostListed) (byteAt p 0) (low, high), lt-ltb (byteAt p 0) (length p) l)
+
+note-read : (n : Note) → n .earliestRelease < 4294967296 → n .latestRelease < 4294967296 → n .deadline < 4294967296 → (more : List ℕ)
+    → noteIn (noteFile n ++ more) (n .bell) ≡ n
+unfolding noteIn noteFile listedIn
+note-read n ra rb d more =
+    λ i. record {
+      key = n .key;
+      bell = n .bell;
+      earliestRelease = be32-digits (n .earliestRelease) ra [] i;
+      latestRelease = be32-digits (n .latestRelease) rb [] i;
+      deadline = be32-digits (n .deadline) d [] i;
+      listed = take-at (n .listed) more (noteBytes + length (n .listed) - noteBytes) (omega arith) i;
+    }
+
+pub note-length : (n : Note) → length (noteFile n) ≡ 1 + noteBytes + length (n .listed)
+unfolding noteFile
+note-length n = omega arith
+
+pub note-first : (n : Note) (more : List ℕ) → byteAt (noteFile n ++ more) 0 ≡ noteBytes + length (n .listed)
+unfolding noteFile
+note-first n more = refl
+
+note-key : (n : Note) (more : List ℕ) → byteAt (noteFile n ++ more) 1 ≡ n .key
+unfolding noteFile
+note-key n more = refl
+
+pub note-back : (bells : List Bell) (before : List Note) (n : Note) → ValidNote bells before n → (at : ℕ) (more : List ℕ)
+    → noteRecord bells (length before) at (noteFile n ++ more) ≡ ok n
+unfolding noteIn
+note-back bells before n v at more =
+    let p : List ℕ = noteFile n ++ more in
+    let own : ℕ = length before in
+    let t = times (n .earliestRelease) (n .latestRelease) (n .deadline) (v .times) in
+    let same : noteIn p (n .bell) ≡ n = note-read n (omega arith) (omega arith) (omega arith) more in
+    let size : byteAt p 0 ≡ noteBytes + length (n .listed) = note-first n more in
+    let few = v .few in
+    let long : byteAt p 0 < length p = omega (arith, note-length n, length-append (noteFile n) more) in
+    let key = ap (λ (k : ℕ). find k bells) (note-key n more) ∙ v .sounds in
+    let right = ap (λ (m : Note). areTimes (m .earliestRelease) (m .latestRelease) (m .deadline)) same ∙ v .times in
+    let rise = ap (λ (m : Note). rises own 0 (m .listed)) same ∙ v .rising in
+    note-good bells own at p (omega arith) (omega arith) long ∙ fields-good bells own at p (n .bell) key right rise ∙ ap ok same

@@ -1,0 +1,147 @@
+-- Document 01's phrase P and refusals 1 to 12, and further files, in one table with one result. Assumes nothing.
+use Prim.Native.Nat.{ℕ}
+use mathlib.Core.Path.{_≡_, refl}
+use mathlib.Core.List.{List, [], _∷_, _++_, map}
+use lib.ListN.{take, set}
+use Rattle.format.specs.Phrase.{Bell, Note, Phrase}
+use Rattle.format.specs.Reading.{Outcome, ok, refused, reading}
+
+-- a file, and the outcome of reading it that is due
+pub record Case : Type 0 where
+  pub file : List ℕ
+  pub expected : Outcome Phrase
+
+-- phrase P, as document 01 prints it
+abbrev pub fileP : List ℕ
+fileP =
+    0x01
+    ∷ 0x00 ∷ 0x00 ∷ 0x00 ∷ 0x2D
+    ∷ 0x01
+    ∷ 0x02
+    ∷ 0x3C ∷ 0x00 ∷ 0x00 ∷ 0x02 ∷ 0x00 ∷ 0x02 ∷ 0x01
+    ∷ 0x3E ∷ 0x0C ∷ 0x00 ∷ 0x04 ∷ 0x00 ∷ 0x04 ∷ 0x02
+    ∷ 0x02
+    ∷ 0x0D ∷ 0x3C ∷ 0x00 ∷ 0x00 ∷ 0x00 ∷ 0x00 ∷ 0x00 ∷ 0x00 ∷ 0x00 ∷ 0x05 ∷ 0x00 ∷ 0x00 ∷ 0x00 ∷ 0x07
+    ∷ 0x0D ∷ 0x4A ∷ 0x00 ∷ 0x00 ∷ 0x00 ∷ 0x00 ∷ 0x00 ∷ 0x00 ∷ 0x00 ∷ 0x00 ∷ 0x00 ∷ 0x00 ∷ 0x00 ∷ 0x06
+    ∷ []
+
+-- P's first n bytes, with the count that is right for them
+abbrev cut : ℕ → ℕ → List ℕ
+cut n count = take n (set fileP 4 count)
+
+-- P with note 1 of a key, one byte longer, and a byte added
+abbrev listing : ℕ → ℕ → List ℕ
+listing key byte = set (set (set fileP 4 0x2E) 36 0x0E) 37 key ++ byte ∷ []
+
+abbrev bell : ℕ → ℕ → ℕ → ℕ → ℕ → Bell
+bell n t ca cb p = record { written = n; transposition = t; leastExecution = ca; mostExecution = cb; priority = p }
+
+abbrev note : ℕ → ℕ → ℕ → ℕ → ℕ → List ℕ → Note
+note key bell ra rb d waits = record { key = key; bell = bell; earliestRelease = ra; latestRelease = rb; deadline = d; listed = waits }
+
+abbrev phrase : List Bell → List Note → Outcome Phrase
+phrase bells notes = ok (record { version = 1; cores = 1; bells = bells; notes = notes })
+
+abbrev bell0 : Bell
+bell0 = bell 60 0 2 2 1
+
+abbrev bell1 : Bell
+bell1 = bell 62 12 4 4 2
+
+abbrev note0 : Note
+note0 = note 60 0 0 5 7 []
+
+abbrev row : List ℕ → Outcome Phrase → Case
+row f x = record { file = f; expected = x }
+
+abbrev phraseP : List Case
+phraseP = row fileP (phrase (bell0 ∷ bell1 ∷ []) (note0 ∷ note 74 1 0 0 6 [] ∷ [])) ∷ []
+
+-- the examples of document 01's table
+abbrev refusals : List Case
+refusals =
+    row (0x09 ∷ []) (refused 1 0)
+    ∷ row (0x01 ∷ 0x00 ∷ 0x00 ∷ []) (refused 2 0)
+    -- the bell count is missing
+    ∷ row (0x01 ∷ 0x00 ∷ 0x00 ∷ 0x00 ∷ 0x01 ∷ 0x01 ∷ []) (refused 3 6)
+    ∷ row (0x01 ∷ 0x00 ∷ 0x00 ∷ 0x00 ∷ 0x01 ∷ 0x00 ∷ []) (refused 4 5)
+    ∷ row (0x01 ∷ 0x00 ∷ 0x00 ∷ 0x00 ∷ 0x02 ∷ 0x01 ∷ 0x00 ∷ []) (refused 5 6)
+    ∷ row (set fileP 7 0x0B) (refused 6 7)
+    ∷ row (set fileP 15 0xFE) (refused 7 14)
+    ∷ row (set fileP 21 0x41) (refused 8 21)
+    ∷ row (set fileP 22 0x0C) (refused 9 22)
+    ∷ row (set fileP 37 0x3E) (refused 10 36)
+    ∷ row (set fileP 27 0x06) (refused 11 22)
+    ∷ row (listing 0x4A 0x01) (refused 12 36)
+    ∷ []
+
+-- files that end early, or too late
+abbrev ends : List Case
+ends =
+    -- the empty file has no version to be wrong
+    row [] (refused 2 0)
+    -- m is missing
+    ∷ row (cut 5 0x00) (refused 3 5)
+    -- a bell record is cut: 3 comes before 6 and 7
+    ∷ row (set (cut 8 0x03) 7 0x0B) (refused 3 7)
+    ∷ row (cut 20 0x0F) (refused 3 14)
+    -- K is missing
+    ∷ row (cut 21 0x10) (refused 3 21)
+    -- a note's length is missing
+    ∷ row (cut 22 0x11) (refused 3 22)
+    -- a note is cut: 9 comes before 3, and 3 before the rest
+    ∷ row (cut 35 0x1E) (refused 3 22)
+    ∷ row (set (cut 35 0x1E) 22 0x12) (refused 9 22)
+    ∷ row (set (cut 35 0x1E) 23 0x00) (refused 3 22)
+    -- a byte remains
+    ∷ row (set fileP 4 0x2E ++ 0x00 ∷ []) (refused 3 50)
+    ∷ []
+
+-- the edges of the counts, and of a bell's ranges
+abbrev bells : List Case
+bells =
+    -- nine cores, and 97 bells
+    row (set fileP 5 0x09) (refused 4 5)
+    ∷ row (set fileP 6 0x61) (refused 5 6)
+    -- transpositions of -12, and of 25 and -25
+    ∷ row (set (set fileP 15 0xF4) 37 0x32) (phrase (bell0 ∷ bell 62 244 4 4 2 ∷ []) (note0 ∷ note 50 1 0 0 6 [] ∷ []))
+    ∷ row (set fileP 15 0x19) (refused 6 14)
+    ∷ row (set fileP 15 0xE7) (refused 6 14)
+    -- both bells have the written key 60, and sound for two keys
+    ∷ row (set (set fileP 14 0x3C) 37 0x48) (phrase (bell0 ∷ bell 60 12 4 4 2 ∷ []) (note0 ∷ note 72 1 0 0 6 [] ∷ []))
+    -- 119 and 12 are keys, but 119 + 12 and 12 - 1 are none
+    ∷ row (set fileP 14 0x77) (refused 6 14)
+    ∷ row (set (set fileP 14 0x0C) 15 0xFF) (refused 6 14)
+    -- ca is 0; ca is 3 and cb 2; cb is 5001, and 5000
+    ∷ row (set fileP 10 0x00) (refused 6 7)
+    ∷ row (set fileP 10 0x03) (refused 6 7)
+    ∷ row (set (set fileP 11 0x13) 12 0x89) (refused 6 7)
+    ∷ row (set (set fileP 11 0x13) 12 0x88) (phrase (bell 60 0 2 5000 1 ∷ bell1 ∷ []) (note0 ∷ note 74 1 0 0 6 [] ∷ []))
+    ∷ []
+
+-- the edges of a note's times, and of its waits
+abbrev notes : List Case
+notes =
+    -- K is 0
+    row (set (cut 22 0x11) 21 0x00) (phrase (bell0 ∷ bell1 ∷ []) [])
+    -- note 0: rb is 3600001, and 3600000; d is 3600001
+    ∷ row (set (set (set fileP 29 0x36) 30 0xEE) 31 0x81) (refused 11 22)
+    ∷ row (set (set (set fileP 29 0x36) 30 0xEE) 31 0x80) (phrase (bell0 ∷ bell1 ∷ []) (note 60 0 0 3600000 7 [] ∷ note 74 1 0 0 6 [] ∷ []))
+    ∷ row (set (set (set fileP 33 0x36) 34 0xEE) 35 0x81) (refused 11 22)
+    -- note 1 is due before its ra
+    ∷ row (set (set fileP 41 0x09) 45 0x09) (phrase (bell0 ∷ bell1 ∷ []) (note0 ∷ note 74 1 9 9 6 [] ∷ []))
+    -- no bell and wrong times: 10 comes before 11
+    ∷ row (set (set fileP 23 0x3D) 27 0x06) (refused 10 22)
+    -- note 1 lists job 0, which is also the nearest earlier job of its bell
+    ∷ row (listing 0x3C 0x00) (phrase (bell0 ∷ bell1 ∷ []) (note0 ∷ note 60 0 0 0 6 (0 ∷ []) ∷ []))
+    -- note 1 lists job 0 twice, and lists five numbers
+    ∷ row (set (set fileP 4 0x2F) 36 0x0F ++ 0x00 ∷ 0x00 ∷ []) (refused 12 36)
+    ∷ row (set (set fileP 4 0x32) 36 0x12 ++ 0x00 ∷ 0x00 ∷ 0x00 ∷ 0x00 ∷ 0x00 ∷ []) (refused 9 36)
+    ∷ []
+
+abbrev pub table : List Case
+table = phraseP ++ refusals ++ ends ++ bells ++ notes
+
+pub examples : map (λ (c : Case). reading (c .file)) table ≡ map (λ (c : Case). c .expected) table
+unfolding reading
+examples = refl

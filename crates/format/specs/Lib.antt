@@ -1,0 +1,9 @@
+-- The phrase file: the phrase that it holds, and how it is read.
+pub mod Bytes
+pub mod Phrase
+pub mod Reading
+pub mod Rows
+pub mod Examples
+pub mod Valid
+pub mod Analysable
+pub mod Writing

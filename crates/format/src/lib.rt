@@ -1,0 +1,1 @@
+// The phrase file: its reader.
