@@ -2,23 +2,26 @@
 use Prim.Native.Nat.{ℕ, zero, suc, _+_, _≤_, _<_}
 use mathlib.Core.Path.{_≡_, refl, sym, subst}
 use mathlib.Core.Logic.{⊎-elim}
-use mathlib.Core.Bool.{Bool, true, false, cond, _||_, false≢true}
-use mathlib.Core.List.{List, [], _∷_, _++_, map}
+use mathlib.Core.Bool.{true}
+use mathlib.Core.List.{List, [], _∷_, map}
 use mathlib.Core.Option.{Option, none, some}
 use native.Mathlib.Omega.{arith}
 use native.Mathlib.Nat.{not-suc-le-zero, le-of-suc-le-suc}
-use lib.Dec.{leb, ltb, eqb}
+use lib.Dec.{leb, ltb}
 use lib.ListN.{length, getD, take, length-append, length-map}
 use lib.Seq.{length-take-le}
-use borrow.Author.Tests.{ltb-true, eqb-true}
+use borrow.Author.Tests.{ltb-true}
 use Rattle.model.specs.Folds.{member}
-use Rattle.model.specs.Jobs.{Job, job, nearest, asList, predecessors}
+use Rattle.model.specs.Jobs.{job, nearest, asList, predecessors}
 use Rattle.format.specs.Phrase.{Note, Phrase, bellOf, jobOf, jobsOf}
 use Rattle.format.specs.Reading.{mostListed, rises}
 use Rattle.format.specs.Rows.{mostPredecessors}
 use Rattle.format.specs.Valid.{ValidNote, Valid}
 use Rattle.format.specs.Analysable.{InRanges, Analysable}
-use Rattle.format.proofs.Passed.{and-l, and-r, or-cases}
+use Rattle.model.specs.Guarantee.{WellFormed}
+use Rattle.model.proofs.Booleans.{and-left, and-right}
+use Rattle.model.proofs.Folds.{not-in-nil, member-cases}
+use Rattle.model.proofs.Predecessors.{predecessor-earlier}
 use Rattle.format.proofs.ValidLists.{noNote, each-at, bell-of}
 use Rattle.format.proofs.Records.{bell-ranges, times}
 
@@ -30,34 +33,14 @@ getD-map f (x ∷ xs) (suc i) d e l = getD-map f xs i d e (le-of-suc-le-suc l)
 -- ---- predecessors are smaller than the job, and few
 
 rises-below : (own low : ℕ) (ws : List ℕ) → rises own low ws ≡ true → (w : ℕ) → member w ws ≡ true → w < own
-unfolding rises member
-rises-below own low [] e w m = absurd (false≢true m)
+unfolding rises
+rises-below own low [] e w m = absurd (not-in-nil w m)
 rises-below own low (x ∷ xs) e w m =
-    let rest = and-r (leb low x) _ e in
+    let rest = and-right (leb low x) _ e in
     ⊎-elim
-    (λ q. omega (arith, eqb-true w x q, ltb-true x own (and-l (ltb x own) _ rest)))
-    (λ h. rises-below own (x + 1) xs (and-r (ltb x own) _ rest) w h)
-    (or-cases (eqb w x) (member w xs) m)
-
-nearest-below : (js : List Job) (bell n w : ℕ) → member w (asList (nearest js bell n)) ≡ true → w < n
-unfolding nearest member
-nearest-below js bell zero w m = absurd (false≢true m)
-nearest-below js bell (suc n) w m = go (eqb (job js n .bell) bell) m (nearest-below js bell n w)
-  where
-    go : (t : Bool) → member w (asList (cond t (some n) (nearest js bell n))) ≡ true → (member w (asList (nearest js bell n)) ≡ true → w < n) → w < suc n
-    go true h later = ⊎-elim (λ q. omega (arith, eqb-true w n q)) (λ q. absurd (false≢true q)) (or-cases (eqb w n) false h)
-    go false h later = omega (arith, later h)
-
-append-below : (n w : ℕ) (xs ys : List ℕ) → (member w xs ≡ true → w < n) → (member w ys ≡ true → w < n) → member w (xs ++ ys) ≡ true → w < n
-unfolding member
-append-below n w [] ys f g m = g m
-append-below n w (x ∷ xs) ys f g m = go (eqb w x) f m (append-below n w xs ys)
-  where
-    go : (t : Bool) → (t || member w xs ≡ true → w < n) → t || member w (xs ++ ys) ≡ true
-        → ((member w xs ≡ true → w < n) → (member w ys ≡ true → w < n) → member w (xs ++ ys) ≡ true → w < n)
-        → w < n
-    go true f h later = f refl
-    go false f h later = later f g h
+    (λ q. omega (arith, ltb-true x own (and-left (ltb x own) _ rest)))
+    (λ h. rises-below own (x + 1) xs (and-right (ltb x own) _ rest) w h)
+    (member-cases w x xs m)
 
 few-near : (o : Option ℕ) → length (asList o) ≤ 1
 few-near none = omega arith
@@ -93,10 +76,6 @@ module _ (x : Phrase) (v : Valid x) (i : ℕ) (l : i < length (jobsOf x)) where
   listed-earlier : (w : ℕ) → member w (job (jobsOf x) i .listed) ≡ true → w < i
   listed-earlier w m = rises-below i 0 (note .listed) (rw own at (rule .rising)) w (rw is-job at m)
 
-  earlier : (w : ℕ) → member w (predecessors (jobsOf x) i) ≡ true → w < i
-  unfolding predecessors
-  earlier w = append-below i w (job (jobsOf x) i .listed) _ (listed-earlier w) (nearest-below (jobsOf x) _ i w)
-
   few : length (predecessors (jobsOf x) i) ≤ mostPredecessors
   unfolding predecessors
   few =
@@ -104,13 +83,16 @@ module _ (x : Phrase) (v : Valid x) (i : ℕ) (l : i < length (jobsOf x)) where
       let near : Option ℕ = nearest (jobsOf x) (job (jobsOf x) i .bell) i in
       omega (arith, length-append (job (jobsOf x) i .listed) (asList near), few-near near)
 
+well-formed : (x : Phrase) → Valid x → WellFormed (jobsOf x) (x .cores)
+well-formed x v = record { cores = v .cores .0; lasts = λ i l. ranges x v i l .execution .0; earlier = listed-earlier x v }
+
 pub analysable : (x : Phrase) → Valid x → Analysable x
 analysable x v =
     record {
       cores = v .cores;
       jobCount = omega (arith, v .noteCount, length-map (x .notes) (jobOf (x .bells)));
       ranges = ranges x v;
-      earlier = earlier x v;
+      earlier = predecessor-earlier (jobsOf x) (x .cores) (well-formed x v);
       few = few x v;
-      wellFormed = record { cores = v .cores .0; lasts = λ i l. ranges x v i l .execution .0; earlier = listed-earlier x v };
+      wellFormed = well-formed x v;
     }

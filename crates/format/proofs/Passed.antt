@@ -1,30 +1,18 @@
 -- What a test that holds says, and what an outcome that is no refusal says. Assumes nothing.
 use Prim.Native.Nat.{ℕ, _≤_}
 use mathlib.Core.Path.{_≡_, refl}
-use mathlib.Core.Bool.{Bool, true, false, _&&_, _||_, false≢true}
-use mathlib.Core.Logic.{_⊎_, inl, inr}
+use mathlib.Core.Bool.{Bool, true, false, false≢true}
 use mathlib.Core.Option.{Option, none, some}
 use native.Mathlib.Omega.{arith}
 use lib.Dec.{leb}
 use borrow.Author.Tests.{leb-true, le-leb}
+use Rattle.model.proofs.Booleans.{and-left, and-right}
 use Rattle.format.specs.Bytes.{within}
 use Rattle.format.specs.Reading.{Outcome, ok, refused, _>>=_, _>>_, require, orRefuse, isNone}
 
-pub and-l : (a b : Bool) → (a && b) ≡ true → a ≡ true
-and-l true b e = refl
-and-l false b e = e
-
-pub and-r : (a b : Bool) → (a && b) ≡ true → b ≡ true
-and-r true b e = e
-and-r false b e = absurd (false≢true e)
-
-pub or-cases : (a b : Bool) → (a || b) ≡ true → (a ≡ true) ⊎ (b ≡ true)
-or-cases true b e = inl refl
-or-cases false b e = inr e
-
 pub within-true : (low high x : ℕ) → within low high x ≡ true → (low ≤ x) × (x ≤ high)
 unfolding within
-within-true low high x e = (leb-true low x (and-l (leb low x) (leb x high) e), leb-true x high (and-r (leb low x) (leb x high) e))
+within-true low high x e = (leb-true low x (and-left (leb low x) (leb x high) e), leb-true x high (and-right (leb low x) (leb x high) e))
 
 pub true-within : (low high x : ℕ) → (low ≤ x) × (x ≤ high) → within low high x ≡ true
 unfolding within

@@ -11,10 +11,12 @@ use lib.Seq.{take-at}
 use borrow.Author.Tests.{leb-true, le-leb, lt-ltb}
 use Rattle.format.specs.Bytes.{byteAt, be32, within}
 use Rattle.format.specs.Phrase.{Bell, sounding, Note}
-use Rattle.format.specs.Reading.{bellBytes, noteBytes, mostListed, lowestKey, highestKey, longestExecution, latestTime, ok, bellIn, isTransposition, isExecutionRange, bellInRange, find, bellRecord, areTimes, rises, listedIn, noteIn, noteFields, noteRecord}
+use Rattle.model.specs.Limits.{longestExecution, latestTime}
+use Rattle.format.specs.Reading.{bellBytes, noteBytes, mostListed, lowestKey, highestKey, ok, bellIn, isTransposition, isExecutionRange, bellInRange, find, bellRecord, areTimes, rises, listedIn, noteIn, noteFields, noteRecord}
 use Rattle.format.specs.Valid.{ValidBell, ValidNote}
 use Rattle.format.specs.Writing.{bellFile, noteFile}
-use Rattle.format.proofs.Passed.{and-l, and-r, within-true, true-within}
+use Rattle.model.proofs.Booleans.{and-left, and-right}
+use Rattle.format.proofs.Passed.{within-true, true-within}
 use Rattle.format.proofs.Digits.{be16-digits, be32-digits}
 
 -- ---- a bell
@@ -22,10 +24,10 @@ use Rattle.format.proofs.Digits.{be16-digits, be32-digits}
 executions : (least most : ℕ) → isExecutionRange least most ≡ true → (1 ≤ least) × (least ≤ most) × (most ≤ longestExecution)
 unfolding isExecutionRange
 executions least most e =
-    let r : leb least most && leb most longestExecution ≡ true = and-r (leb 1 least) _ e in
-    let low = leb-true 1 least (and-l (leb 1 least) _ e) in
-    let order = leb-true least most (and-l (leb least most) _ r) in
-    (low, order, leb-true most longestExecution (and-r (leb least most) _ r))
+    let r : leb least most && leb most longestExecution ≡ true = and-right (leb 1 least) _ e in
+    let low = leb-true 1 least (and-left (leb 1 least) _ e) in
+    let order = leb-true least most (and-left (leb least most) _ r) in
+    (low, order, leb-true most longestExecution (and-right (leb least most) _ r))
 
 -- what a bell in range says of its keys and of its execution times
 pub record BellRanges (b : Bell) : Type 0 where
@@ -37,10 +39,10 @@ pub bell-ranges : (b : Bell) → bellInRange b ≡ true → BellRanges b
 unfolding bellInRange
 bell-ranges b e =
     let isKey : ℕ → Bool = within lowestKey highestKey in
-    let r = and-r (isTransposition (b .transposition)) _ (and-r (isKey (b .written)) _ e) in
-    let written = within-true lowestKey highestKey (b .written) (and-l (isKey (b .written)) _ e) in
-    let sounds = within-true lowestKey highestKey (sounding b) (and-l (isKey (sounding b)) _ r) in
-    record { written = written .1; sounds = sounds .1; execution = executions (b .leastExecution) (b .mostExecution) (and-r (isKey (sounding b)) _ r) }
+    let r = and-right (isTransposition (b .transposition)) _ (and-right (isKey (b .written)) _ e) in
+    let written = within-true lowestKey highestKey (b .written) (and-left (isKey (b .written)) _ e) in
+    let sounds = within-true lowestKey highestKey (sounding b) (and-left (isKey (sounding b)) _ r) in
+    record { written = written .1; sounds = sounds .1; execution = executions (b .leastExecution) (b .mostExecution) (and-right (isKey (sounding b)) _ r) }
 
 bell-good : (before : List Bell) (at : ℕ) (p : List ℕ) → bellBytes ≤ length p → bellInRange (bellIn p) ≡ true → find (sounding (bellIn p)) before ≡ none
     → bellRecord before at p ≡ ok (bellIn p)
@@ -74,9 +76,9 @@ bell-back before b v at more =
 pub times : (ra rb d : ℕ) → areTimes ra rb d ≡ true → (ra ≤ rb) × (rb ≤ latestTime) × (d ≤ latestTime)
 unfolding areTimes
 times ra rb d e =
-    let r : leb rb latestTime && leb d latestTime ≡ true = and-r (leb ra rb) _ e in
-    let order = leb-true ra rb (and-l (leb ra rb) _ e) in
-    (order, leb-true rb latestTime (and-l (leb rb latestTime) _ r), leb-true d latestTime (and-r (leb rb latestTime) _ r))
+    let r : leb rb latestTime && leb d latestTime ≡ true = and-right (leb ra rb) _ e in
+    let order = leb-true ra rb (and-left (leb ra rb) _ e) in
+    (order, leb-true rb latestTime (and-left (leb rb latestTime) _ r), leb-true d latestTime (and-right (leb rb latestTime) _ r))
 
 fields-good : (bells : List Bell) (own at : ℕ) (p : List ℕ) (bell : ℕ) → find (byteAt p 1) bells ≡ some bell
     → areTimes (be32 p 2) (be32 p 6) (be32 p 10) ≡ true → rises own 0 (listedIn p) ≡ true

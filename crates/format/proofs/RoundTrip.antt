@@ -9,7 +9,8 @@ use lib.Seq.{drop-at, getD-append-add}
 use borrow.Author.Tests.{le-leb, lt-leb, lt-ltb, eq-eqb}
 use Rattle.format.specs.Bytes.{byteAt, be32}
 use Rattle.format.specs.Phrase.{Bell, Note, Phrase}
-use Rattle.format.specs.Reading.{countAt, headerBytes, coresAt, bellCountAt, bellsAt, bellBytes, noteBytes, mostCores, mostBells, mostNotes, mostListed, Outcome, ok, _>>=_, bellRecord, noteRecord, bellsFrom, notesFrom, bellsOf, notesOf, noteCountAt, reading}
+use Rattle.model.specs.Limits.{mostCores, mostJobs}
+use Rattle.format.specs.Reading.{countAt, headerBytes, coresAt, bellCountAt, bellsAt, bellBytes, noteBytes, mostBells, mostListed, Outcome, ok, _>>=_, bellRecord, noteRecord, bellsFrom, notesFrom, bellsOf, notesOf, noteCountAt, reading}
 use Rattle.format.specs.Valid.{AreBytes, Each, ValidBell, ValidNote, Valid}
 use Rattle.format.specs.Writing.{digits, records, bellFile, noteFile, counted, written}
 use Rattle.format.proofs.Passed.{true-within}
@@ -75,10 +76,10 @@ bells-good : (s : List ℕ) (n : ℕ) → byteAt s bellCountAt ≡ n → bellCou
 unfolding bellsOf
 bells-good s n e l h = simp (lt-ltb bellCountAt (length s) l, e, true-within 1 mostBells n h)
 
-notes-good : (s : List ℕ) (bells : List Bell) (n at : ℕ) → noteCountAt s ≡ at → byteAt s at ≡ n → at < length s → n ≤ mostNotes
+notes-good : (s : List ℕ) (bells : List Bell) (n at : ℕ) → noteCountAt s ≡ at → byteAt s at ≡ n → at < length s → n ≤ mostJobs
     → notesOf s bells ≡ notesFrom s bells n (at + 1) []
 unfolding notesOf
-notes-good s bells n at a e l h = simp (a, lt-ltb at (length s) l, e, le-leb n mostNotes h)
+notes-good s bells n at a e l h = simp (a, lt-ltb at (length s) l, e, le-leb n mostJobs h)
 
 reading-good : (s : List ℕ) (bells : List Bell) (notes : List Note) → byteAt s 0 ≡ 1 → coresAt < length s → be32 s countAt ≡ length s - headerBytes
     → (1 ≤ byteAt s coresAt) × (byteAt s coresAt ≤ mostCores) → bellsOf s ≡ ok bells → notesOf s bells ≡ ok notes

@@ -10,10 +10,12 @@ use lib.Seq.{drop-drop, getD-drop}
 use borrow.Author.Tests.{leb-true, ltb-true, eqb-true, lt-leb}
 use Rattle.format.specs.Bytes.{byteAt, be32, within}
 use Rattle.format.specs.Phrase.{Bell, Note, Phrase}
-use Rattle.format.specs.Reading.{countAt, headerBytes, coresAt, bellCountAt, bellsAt, bellBytes, mostCores, mostBells, mostNotes, ok, bellRecord, noteRecord, bellsFrom, notesFrom, bellsOf, notesOf, noteCountAt, reading}
+use Rattle.model.specs.Limits.{mostCores, mostJobs}
+use Rattle.format.specs.Reading.{countAt, headerBytes, coresAt, bellCountAt, bellsAt, bellBytes, mostBells, ok, bellRecord, noteRecord, bellsFrom, notesFrom, bellsOf, notesOf, noteCountAt, reading}
 use Rattle.format.specs.Valid.{AreBytes, Each, ValidBell, ValidNote, Valid}
 use Rattle.format.specs.Writing.{digits, records, bellFile, noteFile, counted, written}
-use Rattle.format.proofs.Passed.{and-r, within-true, required, bound}
+use Rattle.model.proofs.Booleans.{and-right}
+use Rattle.format.proofs.Passed.{within-true, required, bound}
 use Rattle.format.proofs.Digits.{spelled, spelled-from, digits-be32}
 use Rattle.format.proofs.Given.{bell-given, note-given}
 
@@ -91,7 +93,7 @@ record Given (s : List ℕ) (bells : List Bell) (notes : List Note) : Type 0 whe
   bellsValid : Each ValidBell [] bells
   bellsFile : drop bellsAt s ≡ records bellFile bells ++ drop (noteCountAt s) s
   long : noteCountAt s < length s
-  noteRange : byteAt s (noteCountAt s) ≤ mostNotes
+  noteRange : byteAt s (noteCountAt s) ≤ mostJobs
   noteCount : length notes ≡ byteAt s (noteCountAt s)
   notesValid : Each (ValidNote bells) [] notes
   notesFile : drop (noteCountAt s + 1) s ≡ records noteFile notes
@@ -111,7 +113,7 @@ given s x bytes e =
     let a = required (ltb bellCountAt (length s)) 3 bellCountAt (bells .1) in
     let b = required (within 1 mostBells (byteAt s bellCountAt)) 5 bellCountAt (a .1) in
     let c = required (ltb (noteCountAt s) (length s)) 3 (noteCountAt s) (notes .1) in
-    let d = required (leb (byteAt s (noteCountAt s)) mostNotes) 8 (noteCountAt s) (c .1) in
+    let d = required (leb (byteAt s (noteCountAt s)) mostJobs) 8 (noteCountAt s) (c .1) in
     let long = ltb-true (noteCountAt s) (length s) (c .0) in
     let some : 0 < length s = omega arith in
     let right : eqb (byteAt s 0) 1 ≡ true = rw (lt-leb (length s) 0 some) at (version .0) in
@@ -123,14 +125,14 @@ given s x bytes e =
     same (
       record {
         version = eqb-true (byteAt s 0) 1 right;
-        count = eqb-true (be32 s countAt) (length s - headerBytes) (and-r (leb headerBytes (length s)) _ (count .0));
+        count = eqb-true (be32 s countAt) (length s - headerBytes) (and-right (leb headerBytes (length s)) _ (count .0));
         cores = within-true 1 mostCores (byteAt s coresAt) (cores .0);
         bellRange = within-true 1 mostBells (byteAt s bellCountAt) (b .0);
         bellCount = rw (← bs .whole) (bs .count);
         bellsValid = rw (← bs .whole) (bs .valid);
         bellsFile = rw (← bs .whole) (bs .file);
         long = long;
-        noteRange = leb-true (byteAt s (noteCountAt s)) mostNotes (d .0);
+        noteRange = leb-true (byteAt s (noteCountAt s)) mostJobs (d .0);
         noteCount = rw (← ns .whole) (ns .count);
         notesValid = rw (← ns .whole) (ns .valid);
         notesFile = rw (← ns .whole) (ns .file);

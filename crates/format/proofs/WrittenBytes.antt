@@ -13,7 +13,7 @@ use Rattle.format.specs.Phrase.{Bell, Note, Phrase, noBell, bellOf}
 use Rattle.format.specs.Reading.{noteBytes, rises}
 use Rattle.format.specs.Valid.{IsByte, AreBytes, Each, ValidBell, ValidNote, Valid}
 use Rattle.format.specs.Writing.{digits, records, bellFile, noteFile, counted, written}
-use Rattle.format.proofs.Passed.{and-l, and-r}
+use Rattle.model.proofs.Booleans.{and-left, and-right}
 use Rattle.format.proofs.Records.{bell-ranges}
 use Rattle.format.proofs.ValidLists.{noNote, each-at, bell-of}
 
@@ -45,9 +45,9 @@ rises-bytes : (own low : ℕ) (ws : List ℕ) → own ≤ 256 → rises own low 
 unfolding rises
 rises-bytes own low [] h e = nil
 rises-bytes own low (w ∷ ws) h e =
-    let rest = and-r (leb low w) _ e in
-    let below = ltb-true w own (and-l (ltb w own) _ rest) in
-    cons w (omega arith) (rises-bytes own (w + 1) ws h (and-r (ltb w own) _ rest))
+    let rest = and-right (leb low w) _ e in
+    let below = ltb-true w own (and-left (ltb w own) _ rest) in
+    cons w (omega arith) (rises-bytes own (w + 1) ws h (and-right (ltb w own) _ rest))
 
 bell-bytes : (before : List Bell) (b : Bell) → ValidBell before b → Bytes (bellFile b)
 unfolding bellFile

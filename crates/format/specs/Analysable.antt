@@ -7,7 +7,7 @@ use Rattle.model.specs.Folds.{member}
 use Rattle.model.specs.Jobs.{Job, job, predecessors}
 use Rattle.model.specs.Guarantee.{WellFormed}
 use Rattle.format.specs.Phrase.{Phrase, jobsOf}
-use Rattle.format.specs.Reading.{mostCores, mostNotes, longestExecution, latestTime}
+use Rattle.model.specs.Limits.{mostCores, mostJobs, longestExecution, latestTime}
 use Rattle.format.specs.Rows.{mostPredecessors}
 
 -- The fields of a job lie in their ranges.
@@ -19,7 +19,7 @@ pub record InRanges (j : Job) : Type 0 where
 -- Counts and times are small, and the predecessors of a job few and smaller than the job.
 pub record Analysable (x : Phrase) : Type 0 where
   pub cores : (1 ≤ x .cores) × (x .cores ≤ mostCores)
-  pub jobCount : length (jobsOf x) ≤ mostNotes
+  pub jobCount : length (jobsOf x) ≤ mostJobs
   pub ranges : (i : ℕ) → i < length (jobsOf x) → InRanges (job (jobsOf x) i)
   pub earlier : (i : ℕ) → i < length (jobsOf x) → (w : ℕ) → member w (predecessors (jobsOf x) i) ≡ true → w < i
   pub few : (i : ℕ) → i < length (jobsOf x) → length (predecessors (jobsOf x) i) ≤ mostPredecessors

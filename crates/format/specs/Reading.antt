@@ -1,10 +1,11 @@
 -- The reading of a phrase file: the phrase that it holds, or the number and the place of the first refusal. Assumes nothing.
 use Prim.Native.Nat.{ℕ, zero, suc, _+_, _-_, _*_}
-use mathlib.Core.Bool.{Bool, true, false, cond, not, _&&_, _||_}
+use mathlib.Core.Bool.{Bool, true, false, cond, _&&_, _||_}
 use mathlib.Core.List.{List, [], _∷_, _++_}
 use mathlib.Core.Option.{Option, none, some}
 use lib.Dec.{ltb, leb, eqb}
 use lib.ListN.{length, take, drop}
+use Rattle.model.specs.Limits.{mostCores, mostJobs, longestExecution, latestTime}
 use Rattle.format.specs.Bytes.{byteAt, be16, be32, within}
 use Rattle.format.specs.Phrase.{Bell, sounding, Note, Phrase}
 
@@ -33,14 +34,8 @@ bellBytes = 7
 abbrev pub noteBytes : ℕ
 noteBytes = 13
 
-abbrev pub mostCores : ℕ
-mostCores = 8
-
 abbrev pub mostBells : ℕ
 mostBells = 96
-
-abbrev pub mostNotes : ℕ
-mostNotes = 64
 
 abbrev pub mostListed : ℕ
 mostListed = 4
@@ -53,12 +48,6 @@ highestKey = 119
 
 abbrev pub mostTransposed : ℕ
 mostTransposed = 24
-
-abbrev pub longestExecution : ℕ
-longestExecution = 5000
-
-abbrev pub latestTime : ℕ
-latestTime = 3600000
 
 -- ---- an outcome: a value, or a refusal with its number and place
 
@@ -210,7 +199,7 @@ unfoldable pub notesOf : List ℕ → List Bell → Outcome (List Note)
 unfolding notesFrom
 notesOf s bells = do
   require (ltb (noteCountAt s) (length s)) 3 (noteCountAt s)
-  require (leb (byteAt s (noteCountAt s)) mostNotes) 8 (noteCountAt s)
+  require (leb (byteAt s (noteCountAt s)) mostJobs) 8 (noteCountAt s)
   notesFrom s bells (byteAt s (noteCountAt s)) (noteCountAt s + 1) []
 
 -- Checks run 1, 2, then file order.

@@ -1,11 +1,12 @@
 -- The words in which the reader hands a phrase on: a row for each bell and a row for each job, of fixed widths; zeros after them, and zeros only on a
 -- refusal. Assumes nothing.
-use Prim.Native.Nat.{ℕ, zero, suc, _-_, _*_}
+use Prim.Native.Nat.{ℕ, suc, _-_, _*_}
 use mathlib.Core.List.{List, [], _∷_, _++_}
-use lib.ListN.{getD, length, replicate}
+use lib.ListN.{length, replicate}
 use Rattle.model.specs.Jobs.{Job, job, predecessors}
 use Rattle.format.specs.Phrase.{Bell, sounding, Note, Phrase, jobsOf}
-use Rattle.format.specs.Reading.{Outcome, ok, refused, mostBells, mostNotes, mostListed}
+use Rattle.model.specs.Limits.{mostJobs}
+use Rattle.format.specs.Reading.{Outcome, ok, refused, mostBells, mostListed}
 
 -- the list, and zeros up to n words
 abbrev pub padded : ℕ → List ℕ → List ℕ
@@ -68,5 +69,5 @@ bellTable (ok x) = padded (mostBells * bellWords) (bellRows (x .bells))
 bellTable (refused n at) = replicate (mostBells * bellWords) 0
 
 abbrev pub jobTable : Outcome Phrase → List ℕ
-jobTable (ok x) = padded (mostNotes * jobWords) (jobRowsFrom (jobsOf x) 0 (x .notes))
-jobTable (refused n at) = replicate (mostNotes * jobWords) 0
+jobTable (ok x) = padded (mostJobs * jobWords) (jobRowsFrom (jobsOf x) 0 (x .notes))
+jobTable (refused n at) = replicate (mostJobs * jobWords) 0

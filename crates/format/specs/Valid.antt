@@ -7,7 +7,8 @@ use mathlib.Core.Option.{none, some}
 use lib.ListN.{length}
 use Rattle.format.specs.Bytes.{byteAt}
 use Rattle.format.specs.Phrase.{Bell, sounding, Note, Phrase}
-use Rattle.format.specs.Reading.{mostCores, mostBells, mostNotes, mostListed, bellInRange, find, areTimes, rises}
+use Rattle.model.specs.Limits.{mostCores, mostJobs}
+use Rattle.format.specs.Reading.{mostBells, mostListed, bellInRange, find, areTimes, rises}
 
 -- a number that one byte holds
 abbrev pub IsByte : ℕ → Type 0
@@ -43,5 +44,5 @@ pub record Valid (x : Phrase) : Type 0 where
   pub cores : (1 ≤ x .cores) × (x .cores ≤ mostCores)
   pub bellCount : (1 ≤ length (x .bells)) × (length (x .bells) ≤ mostBells)
   pub bells : Each ValidBell [] (x .bells)
-  pub noteCount : length (x .notes) ≤ mostNotes
+  pub noteCount : length (x .notes) ≤ mostJobs
   pub notes : Each (ValidNote (x .bells)) [] (x .notes)
