@@ -3,3 +3,5 @@ pub mod Bytes
 pub mod Phrase
 pub mod Reading
 pub mod Rows
+pub mod Results
+pub mod Tables

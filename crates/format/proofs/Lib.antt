@@ -1,0 +1,7 @@
+-- Laws on lists and numbers that the functions' proofs cite.
+pub mod Placing
+pub mod BellRows
+pub mod Lookup
+pub mod Outcomes
+pub mod BellReading
+pub mod Ranges
