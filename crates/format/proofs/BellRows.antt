@@ -5,20 +5,15 @@ use mathlib.Core.List.{List, [], _∷_, _++_}
 use native.Mathlib.Nat.{zero-add}
 use native.Mathlib.Omega.{arith}
 use lib.ListN.{length, getD, take, drop, length-append, take-append-drop, List·getD-append}
-use lib.Seq.{getD-take, getD-append-add}
+use lib.Seq.{getD-take, getD-append-add, drop-drop}
 use Rattle.format.specs.Phrase.{Bell, noBell}
 use Rattle.format.specs.Rows.{bellWords, bellRow, bellRows}
-use Rattle.format.specs.Tables.{placed, Begins, bellAt, bellsIn, BellTable}
+use Rattle.format.specs.Tables.{placed, bellAt, bellsIn, BellTable, HoldsBells}
 use Rattle.format.proofs.Placing.{take-placed, length-placed}
 
 pub row-length : (b : Bell) → length (bellRow b) ≡ bellWords
 unfolding bellRow
 row-length b = refl
-
-pub rows-length : (bs : List Bell) → length (bellRows bs) ≡ length bs * bellWords
-unfolding bellRows
-rows-length [] = refl
-rows-length (b ∷ bs) = length-append (bellRow b) (bellRows bs) ∙ omega (arith, row-length b, rows-length bs)
 
 pub rows-snoc : (bs : List Bell) (b : Bell) → bellRows (bs ++ b ∷ []) ≡ bellRows bs ++ bellRow b
 unfolding bellRows bellRow
@@ -68,6 +63,15 @@ table-word t n i k x h g =
     sym (getD-take (n * bellWords) t (i * bellWords + k) 0 (omega arith))
     ∙ ap (λ (l : List ℕ). getD l (i * bellWords + k) 0) (x .rows) ∙ rows-word (bellsIn t n) i k (omega (arith, bells-length t n)) g
 
+-- bell i of a table, where its row begins
+pub bell-at : (t : List ℕ) (n i : ℕ) → i < n → getD (bellsIn t n) i noBell ≡ bellAt (drop (i * bellWords) t)
+unfolding bellsIn
+bell-at t zero i h = absurd (omega arith)
+bell-at t (suc n) zero h = refl
+bell-at t (suc n) (suc i) h =
+    let e : bellWords + i * bellWords ≡ suc i * bellWords = omega arith in
+    bell-at (drop bellWords t) n i (omega arith) ∙ ap bellAt (drop-drop (i * bellWords) bellWords t ∙ ap (λ (k : ℕ). drop k t) e)
+
 -- one bell more
 module _ (t : List ℕ) (i : ℕ) (b : Bell) (x : BellTable t i) (h : (i + 1) * bellWords ≤ length t) where
   more-rows : take ((i + 1) * bellWords) (placed t (i * bellWords) (bellRow b)) ≡ bellRows (bellsIn t i ++ b ∷ [])
@@ -87,7 +91,9 @@ module _ (t : List ℕ) (i : ℕ) (b : Bell) (x : BellTable t i) (h : (i + 1) * 
       let l : length (placed t (i * bellWords) (bellRow b)) ≡ length t = length-placed t (i * bellWords) (bellRow b) (omega (arith, row-length b)) in
       holds (placed t (i * bellWords) (bellRow b)) (i + 1) (bellsIn t i ++ b ∷ []) (omega arith) more-length more-rows
 
-pub table-begins : (t : List ℕ) (n : ℕ) → BellTable t n → Begins (bellRows (bellsIn t n)) t
-table-begins t n x =
-    let l : length (bellRows (bellsIn t n)) ≡ n * bellWords = rows-length (bellsIn t n) ∙ ap (λ (k : ℕ). k * bellWords) (bells-length t n) in
-    ap (λ (k : ℕ). take k t) l ∙ x .rows
+pub table-holds : (t : List ℕ) (n : ℕ) → BellTable t n → HoldsBells (bellsIn t n) t
+table-holds t n x = ap (λ (k : ℕ). take (k * bellWords) t) (bells-length t n) ∙ x .rows
+
+pub holds-none : (t : List ℕ) → HoldsBells [] t
+unfolding bellRows
+holds-none t = refl

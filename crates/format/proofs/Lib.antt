@@ -5,3 +5,6 @@ pub mod Lookup
 pub mod Outcomes
 pub mod BellReading
 pub mod Ranges
+pub mod Listed
+pub mod JobRows
+pub mod NoteReading

@@ -4,7 +4,7 @@ use mathlib.Core.Path.{_≡_, refl, sym, ap, subst}
 use mathlib.Core.Option.{Option, none, some}
 use native.Mathlib.Omega.{arith}
 use Rattle.format.specs.Reading.{Outcome, ok, refused}
-use Rattle.format.specs.Results.{stepOf, foundOf}
+use Rattle.format.specs.Results.{stepOf, foundOf, optionOf}
 use Rattle.format.specs.declared.Step.the-variants.{Taken, Refused}
 use Rattle.format.specs.declared.Found.the-variants.{At, Nothing}
 
@@ -20,6 +20,9 @@ module _ {A : Type 0} where
   pub never : (n at : ℕ) (a : A) → refused n at ≡ ok a → ⊥
   never n at a e = let z : _≡_ {A = ℕ} 0 1 = cc in omega arith
 
+  pub same : (a b : A) → ok a ≡ ok b → a ≡ b
+  same a b e = cc
+
   -- the answer that an outcome gives, and what holds of it
   pub carried : {o p : Outcome A} (P : Outcome A → Type 0) → o ≡ p → P p → (stepOf p ≡ stepOf o) × P o
   carried P e x = (ap stepOf (sym e), subst P (sym e) x)
@@ -27,6 +30,10 @@ module _ {A : Type 0} where
 pub was-some : (o : Option ℕ) (x : ℕ) → foundOf o ≡ At x → o ≡ some x
 was-some (some y) x e = ap some (cc)
 was-some none x e = cc
+
+pub option-found : (o : Option ℕ) → optionOf (foundOf o) ≡ o
+option-found (some x) = refl
+option-found none = refl
 
 pub was-none : (o : Option ℕ) → foundOf o ≡ Nothing → o ≡ none
 was-none (some y) e = cc

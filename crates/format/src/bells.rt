@@ -12,7 +12,7 @@ ghost use Rattle.format.specs.Phrase.{sounding};
 ghost use Rattle.format.specs.Reading.{bellBytes, bellsAt, mostBells, bellIn, isTransposition, isExecutionRange, bellInRange, find, bellRecord, bellsFrom, bellsOf};
 ghost use Rattle.format.specs.Rows.{bellWords, bellRow};
 ghost use Rattle.format.specs.Results.{foundOf, stepOf};
-ghost use Rattle.format.specs.Tables.{placed, Begins, bellsIn, BellTable, bellPut, bellRowsOf};
+ghost use Rattle.format.specs.Tables.{placed, listOf, bellsIn, BellTable, bellPut, HoldsBells};
 
 // Where the file has the bells.
 const COUNT_AT: usize = 6;
@@ -22,7 +22,7 @@ const BELLS_AT: usize = 7;
 const MOST_BELLS: u32 = 96;
 
 // A bell record.
-pub const BELL_BYTES: usize = 7;
+const BELL_BYTES: usize = 7;
 
 const WRITTEN_AT: usize = 0;
 
@@ -43,11 +43,11 @@ const WRITTEN: usize = 1;
 
 const TRANSPOSITION: usize = 2;
 
-pub const LEAST_EXECUTION: usize = 3;
+pub const BELL_LEAST_EXECUTION: usize = 3;
 
-pub const MOST_EXECUTION: usize = 4;
+pub const BELL_MOST_EXECUTION: usize = 4;
 
-pub const PRIORITY: usize = 5;
+pub const BELL_PRIORITY: usize = 5;
 
 const LOWEST_KEY: u32 = 12;
 
@@ -132,9 +132,9 @@ fn write_bell(part: &[u8], key: u32, row: &mut [u32])
     row[SOUNDING] = key;
     row[WRITTEN] = byte(part, WRITTEN_AT);
     row[TRANSPOSITION] = byte(part, TRANSPOSITION_AT);
-    row[LEAST_EXECUTION] = be_16(part, LEAST_EXECUTION_AT);
-    row[MOST_EXECUTION] = be_16(part, MOST_EXECUTION_AT);
-    row[PRIORITY] = byte(part, PRIORITY_AT);
+    row[BELL_LEAST_EXECUTION] = be_16(part, LEAST_EXECUTION_AT);
+    row[BELL_MOST_EXECUTION] = be_16(part, MOST_EXECUTION_AT);
+    row[BELL_PRIORITY] = byte(part, PRIORITY_AT);
     row[6] = 0;
     row[7] = 0;
 }
@@ -172,7 +172,7 @@ fn read_bell(part: &[u8], at: usize, bells: &mut [u32], i: usize) -> Step
 fn bells_from(file: &[u8], n: usize, bells: &mut [u32]) -> Step
     requires { ⌜ (bellsAt ≤ length (now file)) × (n ≤ mostBells) × (mostBells * bellWords ≤ length (now bells)) ⌝ }
     ensures { λ r. ⌜ r ≡ stepOf (bellsFrom (now (file .entry)) n bellsAt []) ⌝ }
-    ensures { λ _. ⌜ Begins (bellRowsOf (bellsFrom (now (file .entry)) n bellsAt [])) (now (bells .exit)) ⌝ }
+    ensures { λ _. ⌜ HoldsBells (listOf (bellsFrom (now (file .entry)) n bellsAt [])) (now (bells .exit)) ⌝ }
 {
     let mut at = BELLS_AT;
     let mut i = 0;
@@ -191,7 +191,7 @@ fn bells_from(file: &[u8], n: usize, bells: &mut [u32]) -> Step
 pub fn read_bells(file: &[u8], bells: &mut [u32]) -> Step
     requires { ⌜ mostBells * bellWords ≤ length (now bells) ⌝ }
     ensures { λ r. ⌜ r ≡ stepOf (bellsOf (now (file .entry))) ⌝ }
-    ensures { λ _. ⌜ Begins (bellRowsOf (bellsOf (now (file .entry)))) (now (bells .exit)) ⌝ }
+    ensures { λ _. ⌜ HoldsBells (listOf (bellsOf (now (file .entry)))) (now (bells .exit)) ⌝ }
 {
     if file.len() <= COUNT_AT {
         return Step::Refused(3, COUNT_AT);
@@ -201,4 +201,12 @@ pub fn read_bells(file: &[u8], bells: &mut [u32]) -> Step
         return Step::Refused(5, COUNT_AT);
     }
     bells_from(file, count as usize, bells)
+}
+
+// Where the note count stands, after n bells.
+pub fn note_count_at(n: usize) -> usize
+    requires { ⌜ n ≤ mostBells ⌝ }
+    ensures { λ r. ⌜ r ≡ bellsAt + n * bellBytes ⌝ }
+{
+    BELLS_AT + n * BELL_BYTES
 }

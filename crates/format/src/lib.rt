@@ -1,7 +1,7 @@
 // The phrase file, read into rows of words.
 pub mod bells;
 pub mod bytes;
-
+pub mod notes;
 // What a phrase file holds: the rows that were filled are the first of each table.
 pub struct Counts {
     pub version: u32,

@@ -11,10 +11,10 @@ use Rattle.format.specs.Phrase.{Bell}
 use Rattle.format.specs.Reading.{ok, bellBytes, bellsAt, bellRecord, bellsFrom}
 use Rattle.format.specs.Rows.{bellWords, bellRow}
 use Rattle.format.specs.Results.{stepOf}
-use Rattle.format.specs.Tables.{placed, Begins, bellsIn, BellTable, bellPut, bellRowsOf}
+use Rattle.format.specs.Tables.{placed, listOf, bellsIn, BellTable, bellPut, HoldsBells}
 use Rattle.format.proofs.Placing.{tail-is}
 use Rattle.format.proofs.Outcomes.{was-ok, was-refused, carried}
-use Rattle.format.proofs.BellRows.{none-held, none-holds, table-more, table-begins}
+use Rattle.format.proofs.BellRows.{none-held, none-holds, holds-none, table-more, table-holds}
 use Rattle.format.proofs.BellReading.{long, stop, turn, done}
 use Rattle.format.proofs.bells.bells_from.Statement.{statement}
 use Rattle.format.proofs.bells.bells_from.Tie as tie
@@ -74,7 +74,7 @@ returns c =
     let o = bellRecord (bellsIn (v .bells) (v .i)) (v .at) (drop (v .at) (now (a .file))) in
     let q = was-refused o _ _ (sym (answer (c .before .before .before .before)) ∙ c .enum-told2 .given .1) in
     let w = stop (now (a .file)) (a .n) (v .i) (v .at) (bellsIn (v .bells) (v .i)) (omega arith) _ _ q in
-    let r = carried (λ o. Begins (bellRowsOf o) (c .before .before .before .before .read-bell .last .1 .1 .0)) (sym (v .inv .4) ∙ w) refl in
+    let r = carried (λ o. HoldsBells (listOf o) (c .before .before .before .before .read-bell .last .1 .1 .0)) (sym (v .inv .4) ∙ w) (holds-none (c .before .before .before .before .read-bell .last .1 .1 .0)) in
     (c .enum-told2 .given .1 ∙ r .0, r .1)
 
 add-at : tie.Need-add-at Inv-loop μ-loop
@@ -109,7 +109,7 @@ returns-2 c =
     let a = c .before .before .before .before .args in
     let v = c .before .loop in
     let w = done (now (a .file)) (a .n) (v .i) (v .at) (bellsIn (v .bells) (v .i)) (omega arith) in
-    carried (λ o. Begins (bellRowsOf o) (v .bells)) (sym (v .inv .4) ∙ w) (table-begins (v .bells) (v .i) (v .inv .3))
+    carried (λ o. HoldsBells (listOf o) (v .bells)) (sym (v .inv .4) ∙ w) (table-holds (v .bells) (v .i) (v .inv .3))
 
 pub bells-from-spec : {M : Type 1} → statement M
 bells-from-spec =
