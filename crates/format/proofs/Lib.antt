@@ -8,3 +8,4 @@ pub mod Ranges
 pub mod Listed
 pub mod JobRows
 pub mod NoteReading
+pub mod FileReading

@@ -7,7 +7,7 @@ use lib.Dec.{ltb, leb, eqb}
 use lib.ListN.{length}
 use Rattle.format.specs.Bytes.{byteAt, be32, within}
 use Rattle.format.specs.Phrase.{Phrase}
-use Rattle.format.specs.Reading.{Outcome, ok, refused, _>>_, require, countAt, headerBytes, coresAt, mostCores}
+use Rattle.format.specs.Reading.{Outcome, ok, refused, _>>=_, _>>_, require, countAt, headerBytes, coresAt, bellCountAt, mostCores, noteCountAt, bellsOf, notesOf}
 use Rattle.format.specs.Rows.{mostPredecessors, padded}
 use Rattle.format.specs.declared.Counts.{Counts}
 use Rattle.format.specs.declared.Reading.{Reading}
@@ -27,6 +27,16 @@ readingOf (refused n at) = Refused n at
 abbrev pub countsOf : Reading → Counts
 countsOf (Whole c) = c
 countsOf (Refused n at) = record { version = 0; cores = 0; bells = 0; jobs = 0 }
+
+-- the counts that a file gives
+abbrev pub countsIn : List ℕ → Counts
+countsIn s =
+    record {
+      version = byteAt s 0;
+      cores = byteAt s coresAt;
+      bells = byteAt s bellCountAt;
+      jobs = byteAt s (noteCountAt s);
+    }
 
 abbrev pub stepOf : {A : Type 0} → Outcome A → Step
 stepOf (ok a) = Taken
@@ -51,3 +61,11 @@ headerOf s = do
   require (leb headerBytes (length s) && eqb (be32 s countAt) (length s - headerBytes)) 2 0
   require (ltb coresAt (length s)) 3 coresAt
   require (within 1 mostCores (byteAt s coresAt)) 4 coresAt
+
+-- what it reads after them
+unfoldable pub bodyOf : List ℕ → Outcome Phrase
+unfolding bellsOf notesOf
+bodyOf s = do
+  bells ← bellsOf s
+  notes ← notesOf s bells
+  ok (record { version = byteAt s 0; cores = byteAt s coresAt; bells = bells; notes = notes })
