@@ -1,4 +1,4 @@
--- Laws of the phrase file's definitions.
+-- Theorems about the definition of reading, and laws that the reader's proofs cite.
 pub mod Passed
 pub mod Digits
 pub mod Records
@@ -8,3 +8,12 @@ pub mod RoundTrip
 pub mod ValidLists
 pub mod WrittenBytes
 pub mod Analysable
+pub mod Outcomes
+pub mod Lookup
+pub mod Placing
+pub mod BellRows
+pub mod BellReading
+pub mod Listed
+pub mod JobRows
+pub mod NoteReading
+pub mod FileReading

@@ -23,17 +23,17 @@ is-none none e = refl
 is-none (some x) e = absurd (false≢true e)
 
 module _ {A : Type 0} {x : A} where
-  never : {n at : ℕ} → refused n at ≡ ok x → ⊥
-  never e = let z : _≡_ {A = ℕ} 0 1 = cc in omega arith
+  pub never : (n at : ℕ) → refused n at ≡ ok x → ⊥
+  never n at e = let z : _≡_ {A = ℕ} 0 1 = cc in omega arith
 
   pub required : (b : Bool) (n at : ℕ) {k : Outcome A} → _>>_ (require b n at) k ≡ ok x → (b ≡ true) × (k ≡ ok x)
   required true n at e = (refl, e)
-  required false n at e = absurd (never e)
+  required false n at e = absurd (never n at e)
 
   pub bound : {B : Type 0} (o : Outcome B) {k : B → Outcome A} → _>>=_ o k ≡ ok x → (b : B) × (o ≡ ok b) × (k b ≡ ok x)
   bound (ok b) e = (b, refl, e)
-  bound (refused n at) e = absurd (never e)
+  bound (refused n at) e = absurd (never n at e)
 
   pub found : (o : Option ℕ) (n at : ℕ) {k : ℕ → Outcome A} → _>>=_ (orRefuse o n at) k ≡ ok x → (b : ℕ) × (o ≡ some b) × (k b ≡ ok x)
   found (some b) n at e = (b, refl, e)
-  found none n at e = absurd (never e)
+  found none n at e = absurd (never n at e)

@@ -1,0 +1,82 @@
+-- `bells::write_bell` meets its contract. Assumes nothing.
+use mathlib.Core.Path.{_≡_, _∙_}
+use mathlib.Core.List.{[], _∷_}
+use native.Mathlib.Omega.{arith}
+use lib.ListN.{length-set}
+use denote.Ref.{now}
+use Rattle.format.specs.Reading.{bellIn}
+use Rattle.format.specs.Rows.{bellRow}
+use Rattle.format.proofs.Placing.{stored}
+use borrow.Author.Needs.{needs}
+use Rattle.format.proofs.bells.write_bell.Statement.{statement}
+use Rattle.format.proofs.bells.write_bell.Tie as tie
+
+slice-write-row : tie.Need-slice-write-row
+slice-write-row c = search needs
+
+byte-requires : tie.Need-byte-requires
+byte-requires c κs = search needs
+
+slice-write-row-2 : tie.Need-slice-write-row-2
+slice-write-row-2 c = search needs
+
+byte-requires-2 : tie.Need-byte-requires-2
+byte-requires-2 c κs = search needs
+
+slice-write-row-3 : tie.Need-slice-write-row-3
+slice-write-row-3 c = search needs
+
+be-16-requires : tie.Need-be-16-requires
+be-16-requires c κs = search needs
+
+slice-write-row-4 : tie.Need-slice-write-row-4
+slice-write-row-4 c = search needs
+
+be-16-requires-2 : tie.Need-be-16-requires-2
+be-16-requires-2 c κs = search needs
+
+slice-write-row-5 : tie.Need-slice-write-row-5
+slice-write-row-5 c = simp length-set (omega arith)
+
+byte-requires-3 : tie.Need-byte-requires-3
+byte-requires-3 c κs = search needs
+
+slice-write-row-6 : tie.Need-slice-write-row-6
+slice-write-row-6 c = simp length-set (omega arith)
+
+slice-write-row-7 : tie.Need-slice-write-row-7
+slice-write-row-7 c = simp length-set (omega arith)
+
+slice-write-row-8 : tie.Need-slice-write-row-8
+slice-write-row-8 c = simp length-set (omega arith)
+
+same-length : tie.Need-same-length
+same-length c = simp length-set
+
+returns : tie.Need-returns
+unfolding bellRow bellIn
+returns c =
+    let a = c .before .before .before .before .before .before .before in
+    let ws = a .args .key ∷ c .before .before .before .before .byte .result ∷ c .before .before .before .byte2 .result ∷ c .before .before .be-16 .result ∷ c .before .be-162 .result ∷ c .byte3 .result ∷ 0 ∷ 0 ∷ [] in
+    let e : ws ≡ bellRow (bellIn (now (a .args .part))) = λ i. a .pre .1 i ∷ c .before .before .before .before .byte .ensures .0 i ∷ c .before .before .before .byte2 .ensures .0 i ∷ c .before .before .be-16 .ensures .0 i ∷ c .before .be-162 .ensures .0 i ∷ c .byte3 .ensures .0 i ∷ 0 ∷ 0 ∷ [] in
+    stored (now (a .args .row)) ws (a .pre .2) ∙ e
+
+pub write-bell-spec : {M : Type 1} → statement M
+write-bell-spec =
+    tie.close
+    (tie.spec
+    slice-write-row
+    byte-requires
+    slice-write-row-2
+    byte-requires-2
+    slice-write-row-3
+    be-16-requires
+    slice-write-row-4
+    be-16-requires-2
+    slice-write-row-5
+    byte-requires-3
+    slice-write-row-6
+    slice-write-row-7
+    slice-write-row-8
+    same-length
+    returns)

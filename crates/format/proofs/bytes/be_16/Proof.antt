@@ -1,0 +1,28 @@
+-- `bytes::be_16` meets its contract. Assumes nothing.
+use Rattle.format.specs.Bytes.{be16}
+use borrow.Author.Needs.{needs}
+use Rattle.format.proofs.bytes.be_16.Statement.{statement}
+use Rattle.format.proofs.bytes.be_16.Tie as tie
+
+byte-requires : tie.Need-byte-requires
+byte-requires c κs = search needs
+
+add-byte : tie.Need-add-byte
+add-byte c = search needs
+
+byte-requires-2 : tie.Need-byte-requires-2
+byte-requires-2 c κs = search needs
+
+mul-result : tie.Need-mul-result
+mul-result c = search needs
+
+add-result : tie.Need-add-result
+add-result c = search needs
+
+returns : tie.Need-returns
+unfolding be16
+returns c = search needs
+
+pub be-16-spec : {M : Type 1} → statement M
+be-16-spec =
+    tie.close (tie.spec byte-requires add-byte byte-requires-2 mul-result add-result returns)
