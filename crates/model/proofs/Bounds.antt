@@ -135,7 +135,7 @@ module _ (js : List Job) (d : ℕ) (timed : TimedUpTo d js) (σ : State) (g : Bo
   unfolding higherPriorityBound certainlyReadyBeside
   higher-up-to i = smallest-le _ (certainlyReadyBeside js σ i) (length js) d (λ j b. omega (arith, timed .releases j b, latest-up-to (λ w. not (member w (predecessors js i))) (predecessors js j)))
 
-  latest-start-up-to : (i : ℕ) → latestStart js σ i ≤ d
+  pub latest-start-up-to : (i : ℕ) → latestStart js σ i ≤ d
   unfolding latestStart
   latest-start-up-to i = go (higherPriorityBound js σ i)
     where
@@ -164,12 +164,22 @@ starts-in-order js σ i e = go (higherPriorityBound js σ i) (and-right (leb (ea
     go infinite u = le
     go (finite y) u = omega (arith, le, ltb-true (earliestStart js σ i) y u)
 
+pub merge-bounded : (js : List Job) (d : ℕ) (τ σ : State) → Bounded js d τ → Bounded js d σ → Bounded js d (merge τ σ)
+unfolding merge
+merge-bounded js d τ σ g h =
+    record {
+      jobs = zip-length hull (τ .finish) (σ .finish) (omega (arith, g .jobs, h .jobs)) ∙ g .jobs;
+      finishes = between-zip d (λ k. job js k .earliestRelease) (τ .finish) (σ .finish) (g .finishes) (h .finishes);
+      possibly = zip-up-to min d (λ x y p q. omega arith) (τ .possiblyFree) (σ .possiblyFree) (g .possibly) (h .possibly);
+      certainly = zip-up-to max d (λ x y p q. omega arith) (τ .certainlyFree) (σ .certainlyFree) (g .certainly) (h .certainly);
+    }
+
 module _ (js : List Job) (d : ℕ) (timed : TimedUpTo d js) where
   edge-between : (σ : State) (i : ℕ) → Edge js σ i → Between (job js i .earliestRelease) d (finishRange js σ i)
   unfolding earliestFinish latestFinish earliestStart possiblyReady
   edge-between σ i e = (omega arith, omega (arith, starts-in-order js σ i (e .starts), timed .executions i (e .inside)), omega (arith, e .timely, timed .deadlines i (e .inside)))
 
-  successor-bounded : (σ : State) (i : ℕ) → Edge js σ i → Bounded js d σ → Bounded js d (successor js σ i)
+  pub successor-bounded : (σ : State) (i : ℕ) → Edge js σ i → Bounded js d σ → Bounded js d (successor js σ i)
   unfolding successor
   successor-bounded σ i e g =
       record {
@@ -182,20 +192,10 @@ module _ (js : List Job) (d : ℕ) (timed : TimedUpTo d js) where
       start : earliestStart js σ i ≤ d
       start = earliest-start-up-to js d timed σ g i (e .inside)
 
-  merge-bounded : (τ σ : State) → Bounded js d τ → Bounded js d σ → Bounded js d (merge τ σ)
-  unfolding merge
-  merge-bounded τ σ g h =
-      record {
-        jobs = zip-length hull (τ .finish) (σ .finish) (omega (arith, g .jobs, h .jobs)) ∙ g .jobs;
-        finishes = between-zip d (λ k. job js k .earliestRelease) (τ .finish) (σ .finish) (g .finishes) (h .finishes);
-        possibly = zip-up-to min d (λ x y p q. omega arith) (τ .possiblyFree) (σ .possiblyFree) (g .possibly) (h .possibly);
-        certainly = zip-up-to max d (λ x y p q. omega arith) (τ .certainlyFree) (σ .certainlyFree) (g .certainly) (h .certainly);
-      }
-
   zeros-up-to : (n : ℕ) → UpTo d (replicate n 0)
   zeros-up-to n k = omega (arith, getD-same {A = ℕ} n k 0)
 
-  initial-bounded : (m : ℕ) → Bounded js d (initial m (length js))
+  pub initial-bounded : (m : ℕ) → Bounded js d (initial m (length js))
   initial-bounded m =
       record {
         jobs = length-replicate (length js) empty;
@@ -208,4 +208,4 @@ module _ (js : List Job) (d : ℕ) (timed : TimedUpTo d js) where
   pub level-bounded : (m cap n : ℕ) → WhileGoing (LevelHas js (Bounded js d) (λ k. Between (job js k .earliestRelease) d)) (explored js m cap n)
   level-bounded m cap =
       level-has js m cap (λ n. Bounded js d) (λ k. Between (job js k .earliestRelease) d) (initial-bounded m) (λ n σ i e g. successor-bounded σ i e g)
-      (λ n τ σ e g h. merge-bounded τ σ g h) (λ k. tt) (λ n σ i e g r h. between-hull (job js i .earliestRelease) d r (finishRange js σ i) h (edge-between σ i e))
+      (λ n τ σ e g h. merge-bounded js d τ σ g h) (λ k. tt) (λ n σ i e g r h. between-hull (job js i .earliestRelease) d r (finishRange js σ i) h (edge-between σ i e))

@@ -1,0 +1,3 @@
+-- Laws of lists of words.
+pub mod Tabulate
+pub mod Parts

@@ -1,0 +1,2 @@
+-- Lists of words.
+pub mod Tabulate
