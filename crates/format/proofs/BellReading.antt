@@ -1,21 +1,21 @@
 -- The reading of bells, by the tests that led there. Assumes nothing.
 use Prim.Native.Nat.{ℕ, zero, suc, _+_, _-_, _*_, _≤_, _<_}
-use mathlib.Core.Path.{_≡_, refl, sym, ap, _∙_}
-use mathlib.Core.Bool.{Bool, true, false}
+use mathlib.Core.Path.{_≡_, sym, ap, _∙_}
+use mathlib.Core.Bool.{true, false}
 use mathlib.Core.List.{List, [], _∷_, _++_}
 use mathlib.Core.Option.{none, some}
 use native.Mathlib.Nat.{add-zero}
 use native.Mathlib.Omega.{arith}
 use lib.Dec.{leb}
 use lib.ListN.{length, drop, length-append}
-use borrow.Author.Tests.{le-leb, lt-leb, lt-ltb, le-ltb, leb-true, leb-false}
+use borrow.Author.Tests.{le-leb, lt-leb, lt-ltb, le-ltb, leb-true}
 use Rattle.format.specs.Bytes.{byteAt, within}
 use Rattle.format.specs.Phrase.{Bell, sounding}
-use Rattle.format.specs.Reading.{Outcome, ok, refused, bellBytes, bellCountAt, bellsAt, mostBells, bellIn, bellInRange, find, bellRecord, bellsFrom, bellsOf}
+use Rattle.format.specs.Reading.{ok, refused, bellBytes, bellCountAt, bellsAt, mostBells, bellIn, bellInRange, find, bellRecord, bellsFrom, bellsOf}
 use Rattle.format.specs.Rows.{bellWords, bellRow}
 use Rattle.format.specs.Tables.{placed, bellsIn, BellTable}
 use Rattle.format.proofs.BellRows.{bells-more}
-use Rattle.format.proofs.Passed.{never}
+use Rattle.format.proofs.Passed.{required, bound}
 
 -- ---- a record
 
@@ -39,14 +39,8 @@ module _ (bs : List Bell) (at : ℕ) (p : List ℕ) where
       whole f = simp (le-leb _ _ l, e, f)
 
   pub long : (b : Bell) → bellRecord bs at p ≡ ok b → bellBytes ≤ length p
-  long b e = go (leb bellBytes (length p)) refl
-    where
-      go : (t : Bool) → leb bellBytes (length p) ≡ t → bellBytes ≤ length p
-      go true q = leb-true bellBytes (length p) q
-      go false q =
-          let f : bellRecord bs at p ≡ refused 3 at = short (leb-false bellBytes (length p) q) in
-          let z : _≡_ {A = ℕ} 0 1 = cc in
-          omega arith
+  unfolding bellRecord
+  long b e = leb-true bellBytes (length p) (required (leb bellBytes (length p)) 3 at e .0)
 
 -- ---- bell by bell
 
@@ -80,12 +74,10 @@ unfolding bellsFrom
 bells-count s zero at bs cs e =
     let q : bs ≡ cs = cc in
     ap length (sym q) ∙ sym (add-zero (length bs))
-bells-count s (suc n) at bs cs e = go (λ b. bells-count s n (at + bellBytes) (bs ++ b ∷ []) cs) (bellRecord bs at (drop at s)) refl
-  where
-    go : ((b : Bell) → bellsFrom s n (at + bellBytes) (bs ++ b ∷ []) ≡ ok cs → length cs ≡ length (bs ++ b ∷ []) + n)
-        → (o : Outcome Bell) → bellRecord bs at (drop at s) ≡ o → length cs ≡ length bs + suc n
-    go ih (ok b) f = ih b (simp f at e) ∙ omega (arith, length-append bs (b ∷ []))
-    go ih (refused r to) f = absurd (never r to (simp f at e))
+bells-count s (suc n) at bs cs e =
+    let step = bound (bellRecord bs at (drop at s)) e in
+    let those = bells-count s n (at + bellBytes) (bs ++ step .0 ∷ []) cs (step .2) in
+    omega (arith, those, length-append bs (step .0 ∷ []))
 
 -- ---- the count, and the bells
 

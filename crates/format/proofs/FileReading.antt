@@ -8,17 +8,16 @@ use native.Mathlib.Omega.{arith}
 use lib.Dec.{ltb, leb, eqb}
 use lib.ListN.{length, take, replicate}
 use lib.Seq.{length-take-le}
-use borrow.Author.Tests.{le-leb, lt-leb, lt-ltb, le-ltb, eq-eqb, ne-eqb, leb-true, leb-false, ltb-true, ltb-false}
+use borrow.Author.Tests.{le-leb, lt-leb, lt-ltb, le-ltb, eq-eqb, ne-eqb, leb-true, ltb-true}
 use Rattle.format.specs.Bytes.{byteAt, be32, within}
 use Rattle.format.specs.Phrase.{Bell, Note, Phrase}
 use Rattle.model.specs.Limits.{mostCores, mostJobs}
-use Rattle.format.specs.Reading.{Outcome, ok, refused, _>>=_, _>>_, require, countAt, headerBytes, coresAt, bellCountAt, mostBells, noteCountAt, bellsOf, notesOf, reading}
+use Rattle.format.specs.Reading.{Outcome, ok, refused, _>>_, require, countAt, headerBytes, coresAt, bellCountAt, bellsAt, mostBells, noteCountAt, bellsOf, notesOf, reading}
 use Rattle.format.specs.Rows.{padded, bellWords, bellRows, jobWords, jobRowsFrom, bellTable, jobTable}
 use Rattle.format.specs.Results.{readingOf, countsOf, countsIn, headerOf, bodyOf}
 use Rattle.format.specs.Tables.{bellsIn, BellTable, HoldsBells, jobRows, HoldsJobs, bellsRead, notesRead, Filled}
 use Rattle.format.specs.declared.Reading.the-variants.{Whole, Refused}
-use Rattle.format.proofs.Passed.{never}
-use Rattle.format.proofs.Passed.{within-true}
+use Rattle.format.proofs.Passed.{within-true, required}
 use Rattle.format.proofs.BellRows as bell-rows
 use Rattle.format.proofs.BellReading as bells
 use Rattle.format.proofs.NoteReading as notes
@@ -63,7 +62,7 @@ module _ (s : List ℕ) where
             headed h = simp (lt-leb _ _ h1, eq-eqb _ _ v, le-leb _ _ h5, eq-eqb _ _ c, lt-ltb _ _ h6, h)
 
   -- the header, and then the body
-  pub parts : reading s ≡ _>>_ (headerOf s) (bodyOf s)
+  parts : reading s ≡ _>>_ (headerOf s) (bodyOf s)
   unfolding reading headerOf bodyOf
   parts =
       go (leb (length s) 0 || eqb (byteAt s 0) 1) (leb headerBytes (length s) && eqb (be32 s countAt) (length s - headerBytes)) (ltb coresAt (length s)) (within 1 mostCores (byteAt s coresAt)) (bodyOf s)
@@ -86,14 +85,10 @@ module _ (s : List ℕ) where
   -- a header that passes reaches the cores
   pub header-long : (u : Unit {0}) → headerOf s ≡ ok u → coresAt < length s
   unfolding headerOf
-  header-long u e = go (leb (length s) 0 || eqb (byteAt s 0) 1) (leb headerBytes (length s) && eqb (be32 s countAt) (length s - headerBytes)) (ltb coresAt (length s)) (within 1 mostCores (byteAt s coresAt)) refl e
-    where
-      go : (a b c d : Bool) → ltb coresAt (length s) ≡ c
-          → _>>_ (require a 1 0) (_>>_ (require b 2 0) (_>>_ (require c 3 coresAt) (require d 4 coresAt))) ≡ ok u → coresAt < length s
-      go a b true d f g = ltb-true coresAt (length s) f
-      go false b false d f g = absurd (never 1 0 g)
-      go true false false d f g = absurd (never 2 0 g)
-      go true true false d f g = absurd (never 3 coresAt g)
+  header-long u e =
+      let version = required (leb (length s) 0 || eqb (byteAt s 0) 1) 1 0 e in
+      let count = required (leb headerBytes (length s) && eqb (be32 s countAt) (length s - headerBytes)) 2 0 (version .1) in
+      ltb-true coresAt (length s) (required (ltb coresAt (length s)) 3 coresAt (count .1) .0)
 
 -- ---- the body
 
@@ -104,42 +99,29 @@ module _ (s : List ℕ) where
 
   -- as many bells as the count says, and no more than fit
   pub bells-read : (bs : List Bell) → bellsOf s ≡ ok bs → (bellCountAt < length s) × (length bs ≡ byteAt s bellCountAt) × (length bs ≤ mostBells)
-  bells-read bs e = go (ltb bellCountAt (length s)) (within 1 mostBells (byteAt s bellCountAt)) refl refl
-    where
-      not : (n at : ℕ) → bellsOf s ≡ refused n at → ⊥
-      not n at f = never n at (sym f ∙ e)
-
-      go : (a b : Bool) → ltb bellCountAt (length s) ≡ a → within 1 mostBells (byteAt s bellCountAt) ≡ b → (bellCountAt < length s) × (length bs ≡ byteAt s bellCountAt) × (length bs ≤ mostBells)
-      go false b f g = absurd (not 3 bellCountAt (bells.no-count s (ltb-false bellCountAt (length s) f)))
-      go true false f g = absurd (not 5 bellCountAt (bells.bad-count s (ltb-true bellCountAt (length s) f) g))
-      go true true f g =
-          let l = ltb-true bellCountAt (length s) f in
-          let k = bells.bells-count s (byteAt s bellCountAt) 7 [] bs (sym (bells.counted s l g) ∙ e) ∙ zero-add (byteAt s bellCountAt) in
-          (l, k, omega (arith, k, within-true 1 mostBells (byteAt s bellCountAt) g))
+  unfolding bellsOf
+  bells-read bs e =
+      let long = required (ltb bellCountAt (length s)) 3 bellCountAt e in
+      let range = required (within 1 mostBells (byteAt s bellCountAt)) 5 bellCountAt (long .1) in
+      let k = bells.bells-count s (byteAt s bellCountAt) bellsAt [] bs (range .1) ∙ zero-add (byteAt s bellCountAt) in
+      (ltb-true bellCountAt (length s) (long .0), k, omega (arith, k, within-true 1 mostBells (byteAt s bellCountAt) (range .0)))
 
   module _ (bs : List Bell) (e : bellsOf s ≡ ok bs) where
     pub notes-stop : (n at : ℕ) → notesOf s bs ≡ refused n at → bodyOf s ≡ refused n at
     unfolding bodyOf
     notes-stop n at f = simp (e, f)
 
-    pub body : (ns : List Note) → notesOf s bs ≡ ok ns → bodyOf s ≡ ok (record { version = byteAt s 0; cores = byteAt s coresAt; bells = bs; notes = ns })
+    body : (ns : List Note) → notesOf s bs ≡ ok ns → bodyOf s ≡ ok (record { version = byteAt s 0; cores = byteAt s coresAt; bells = bs; notes = ns })
     unfolding bodyOf
     body ns f = simp (e, f)
 
   pub notes-read : (bs : List Bell) (ns : List Note) → notesOf s bs ≡ ok ns → (noteCountAt s < length s) × (length ns ≡ byteAt s (noteCountAt s)) × (length ns ≤ mostJobs)
-  notes-read bs ns e = go (ltb (noteCountAt s) (length s)) (leb (byteAt s (noteCountAt s)) mostJobs) refl refl
-    where
-      not : (n at : ℕ) → notesOf s bs ≡ refused n at → ⊥
-      not n at f = never n at (sym f ∙ e)
-
-      go : (a b : Bool) → ltb (noteCountAt s) (length s) ≡ a → leb (byteAt s (noteCountAt s)) mostJobs ≡ b → (noteCountAt s < length s) × (length ns ≡ byteAt s (noteCountAt s)) × (length ns ≤ mostJobs)
-      go false b f g = absurd (not 3 (noteCountAt s) (notes.no-count s bs (ltb-false (noteCountAt s) (length s) f)))
-      go true false f g = absurd (not 8 (noteCountAt s) (notes.bad-count s bs (ltb-true (noteCountAt s) (length s) f) (leb-false (byteAt s (noteCountAt s)) mostJobs g)))
-      go true true f g =
-          let l = ltb-true (noteCountAt s) (length s) f in
-          let h = leb-true (byteAt s (noteCountAt s)) mostJobs g in
-          let k = notes.notes-count s bs (byteAt s (noteCountAt s)) (noteCountAt s + 1) [] ns (sym (notes.counted s bs l h) ∙ e) ∙ zero-add (byteAt s (noteCountAt s)) in
-          (l, k, omega (arith, k, h))
+  unfolding notesOf
+  notes-read bs ns e =
+      let long = required (ltb (noteCountAt s) (length s)) 3 (noteCountAt s) e in
+      let few = required (leb (byteAt s (noteCountAt s)) mostJobs) 8 (noteCountAt s) (long .1) in
+      let k = notes.notes-count s bs (byteAt s (noteCountAt s)) (noteCountAt s + 1) [] ns (few .1) ∙ zero-add (byteAt s (noteCountAt s)) in
+      (ltb-true (noteCountAt s) (length s) (long .0), k, omega (arith, k, leb-true (byteAt s (noteCountAt s)) mostJobs (few .0)))
 
 -- ---- the tables
 

@@ -14,7 +14,8 @@ use Rattle.model.specs.Jobs.{Job, noJob, job, nearest, asList, predecessors}
 use Rattle.format.specs.Phrase.{Bell, Note, bellOf, jobOf}
 use Rattle.format.specs.Reading.{mostListed}
 use Rattle.format.specs.Rows.{padded, jobWords, mostPredecessors, jobRow, jobRowsFrom}
-use Rattle.format.specs.Tables.{bellWord, nearestIn, noteRow, jobRows}
+use Rattle.format.specs.Tables.{placed, countWord, bellWord, nearestIn, demandWords, predecessorWords, originWords, noteRow, jobRows}
+use Rattle.format.proofs.Placing.{placed-append, placed-whole}
 use Rattle.format.proofs.Listed.{padded-length}
 
 -- ---- one row
@@ -29,11 +30,23 @@ module _ (b : Bell) (n : Note) (earlier : Option ℕ) (h : length (n .listed) �
 
   pub row-length : length (noteRow b n earlier) ≡ jobWords
   unfolding noteRow
-  row-length = omega (arith, five, length-append (padded mostPredecessors (n .listed ++ asList earlier)) (n .bell ∷ n .key ∷ length (n .listed) ∷ 0 ∷ []))
+  row-length = omega (arith, five, length-append {A = ℕ} (padded mostPredecessors (n .listed ++ asList earlier)) (n .bell ∷ n .key ∷ length (n .listed) ∷ 0 ∷ []))
 
   pub row-bell : getD (noteRow b n earlier) bellWord 0 ≡ n .bell
   unfolding noteRow
   row-bell = getD-at (padded mostPredecessors (n .listed ++ asList earlier)) (n .bell) (n .key ∷ length (n .listed) ∷ 0 ∷ []) 0 5 five
+
+  -- the row from its three parts, each after the one before
+  pub row-made : (t : List ℕ) → length t ≡ jobWords
+      → placed (placed (placed t 0 (demandWords b (n .earliestRelease) (n .latestRelease) (n .deadline))) countWord (predecessorWords (n .listed ++ asList earlier))) bellWord (originWords n)
+      ≡ noteRow b n earlier
+  unfolding noteRow
+  row-made t l =
+      let demand = demandWords b (n .earliestRelease) (n .latestRelease) (n .deadline) in
+      let before = predecessorWords (n .listed ++ asList earlier) in
+      ap (λ (r : List ℕ). placed r bellWord (originWords n)) (placed-append t 0 countWord demand before (omega arith) refl)
+      ∙ placed-append t 0 bellWord (demand ++ before) (originWords n) (omega arith) (omega (arith, five))
+      ∙ placed-whole t (noteRow b n earlier) (l ∙ sym row-length)
 
 row-is : (js : List Job) (i : ℕ) (bells : List Bell) (n : Note) → job js i ≡ jobOf bells n → jobRow js i (n .key) ≡ noteRow (bellOf bells n) n (nearest js (n .bell) i)
 unfolding jobRow predecessors noteRow

@@ -32,19 +32,26 @@ module _ (p : List ℕ) (x : WholeNote p) (j : ℕ) (h : j < length (listedIn p)
   pub snoc : take (j + 1) (listedIn p) ≡ take j (listedIn p) ++ (byteAt p (1 + noteBytes + j) ∷ [])
   snoc = rw (add-one, ← listed-at) (take-suc (listedIn p) j 0 h)
 
-  module _ (own low : ℕ) where
-    pub low-one : byteAt p (1 + noteBytes + j) < low → rises own low (drop j (listedIn p)) ≡ false
+-- the same by the byte's place in the record
+module _ (p : List ℕ) (x : WholeNote p) (at : ℕ) (g : 1 + noteBytes ≤ at) (h : at < byteAt p 0 + 1) (own low : ℕ) where
+  rest : drop (at - (1 + noteBytes)) (listedIn p) ≡ byteAt p at ∷ drop (at + 1 - (1 + noteBytes)) (listedIn p)
+  rest =
+      let e : 1 + noteBytes + (at - (1 + noteBytes)) ≡ at = omega arith in
+      let f : at - (1 + noteBytes) + 1 ≡ at + 1 - (1 + noteBytes) = omega arith in
+      cons p x (at - (1 + noteBytes)) (omega (arith, listed-length p x)) ∙ (λ i. byteAt p (e i) ∷ drop (f i) (listedIn p))
+
+  pub low-one : byteAt p at < low → rises own low (drop (at - (1 + noteBytes)) (listedIn p)) ≡ false
+  unfolding rises
+  low-one e = rw rest (simp (lt-leb _ _ e))
+
+  module _ (e : low ≤ byteAt p at) where
+    pub high-one : own ≤ byteAt p at → rises own low (drop (at - (1 + noteBytes)) (listedIn p)) ≡ false
     unfolding rises
-    low-one e = rw cons (simp (lt-leb _ _ e))
+    high-one f = rw rest (simp (le-leb _ _ e, le-ltb _ _ f))
 
-    module _ (e : low ≤ byteAt p (1 + noteBytes + j)) where
-      pub high-one : own ≤ byteAt p (1 + noteBytes + j) → rises own low (drop j (listedIn p)) ≡ false
-      unfolding rises
-      high-one f = rw cons (simp (le-leb _ _ e, le-ltb _ _ f))
-
-      pub next-one : byteAt p (1 + noteBytes + j) < own → rises own low (drop j (listedIn p)) ≡ rises own (byteAt p (1 + noteBytes + j) + 1) (drop (j + 1) (listedIn p))
-      unfolding rises
-      next-one f = rw cons (simp (le-leb _ _ e, lt-ltb _ _ f))
+    pub next-one : byteAt p at < own → rises own low (drop (at - (1 + noteBytes)) (listedIn p)) ≡ rises own (byteAt p at + 1) (drop (at + 1 - (1 + noteBytes)) (listedIn p))
+    unfolding rises
+    next-one f = rw rest (simp (le-leb _ _ e, lt-ltb _ _ f))
 
 pub last-one : (l : List ℕ) (j own low : ℕ) → length l ≤ j → rises own low (drop j l) ≡ true
 unfolding rises
@@ -64,11 +71,11 @@ padded-set n l v h =
     ∙ sym (append-assoc l (v ∷ []) (replicate m 0)) ∙ ap (λ (k : ℕ). (l ++ v ∷ []) ++ replicate k 0) (sym e)
 
 -- a list of five, word by word
-pub five-words : (l r : List ℕ) → length l ≡ 5 → getD l 0 0 ∷ getD l 1 0 ∷ getD l 2 0 ∷ getD l 3 0 ∷ getD l 4 0 ∷ r ≡ l ++ r
-five-words [] r h = absurd (omega arith)
-five-words (a ∷ []) r h = absurd (omega arith)
-five-words (a ∷ b ∷ []) r h = absurd (omega arith)
-five-words (a ∷ b ∷ c ∷ []) r h = absurd (omega arith)
-five-words (a ∷ b ∷ c ∷ d ∷ []) r h = absurd (omega arith)
-five-words (a ∷ b ∷ c ∷ d ∷ e ∷ []) r h = refl
-five-words (a ∷ b ∷ c ∷ d ∷ e ∷ f ∷ l) r h = absurd (omega arith)
+pub five-words : (l : List ℕ) → length l ≡ 5 → getD l 0 0 ∷ getD l 1 0 ∷ getD l 2 0 ∷ getD l 3 0 ∷ getD l 4 0 ∷ [] ≡ l
+five-words [] h = absurd (omega arith)
+five-words (a ∷ []) h = absurd (omega arith)
+five-words (a ∷ b ∷ []) h = absurd (omega arith)
+five-words (a ∷ b ∷ c ∷ []) h = absurd (omega arith)
+five-words (a ∷ b ∷ c ∷ d ∷ []) h = absurd (omega arith)
+five-words (a ∷ b ∷ c ∷ d ∷ e ∷ []) h = refl
+five-words (a ∷ b ∷ c ∷ d ∷ e ∷ f ∷ l) h = absurd (omega arith)

@@ -1,12 +1,10 @@
 -- The look-up of a key among the bells of a table, one bell at a time. Assumes nothing.
-use Prim.Native.Nat.{ℕ, suc, _+_, _*_, _≤_, _<_}
-use mathlib.Core.Path.{_≡_, refl, sym, _∙_}
-use mathlib.Core.Bool.{Bool, true, false}
-use mathlib.Core.List.{List, [], _∷_}
+use Prim.Native.Nat.{ℕ, _+_, _*_, _≤_, _<_}
+use mathlib.Core.Path.{_≡_, sym, _∙_}
+use mathlib.Core.List.{List, _∷_}
 use mathlib.Core.Option.{none, some}
 use native.Mathlib.Numerals.{add-one}
 use native.Mathlib.Omega.{arith}
-use lib.Dec.{eqb}
 use lib.ListN.{length, getD, drop, drop-of-length-le}
 use lib.Seq.{drop-cons}
 use borrow.Author.Tests.{eq-eqb, ne-eqb}
@@ -14,6 +12,7 @@ use Rattle.format.specs.Phrase.{Bell, noBell, sounding}
 use Rattle.format.specs.Reading.{findFrom}
 use Rattle.format.specs.Rows.{bellWords, bellRow}
 use Rattle.format.specs.Tables.{bellsIn, BellTable}
+use Rattle.format.proofs.ValidLists.{found-from}
 use Rattle.format.proofs.BellRows.{bells-length, table-word}
 
 module _ (t : List ℕ) (n key i : ℕ) (x : BellTable t n) (h : i < n) where
@@ -38,10 +37,6 @@ end t n key i h = rw (drop-of-length-le (bellsIn t n) {i = i} (omega (arith, bel
 
 -- a bell that is found is one of them
 pub below : (bs : List Bell) (key i k : ℕ) → findFrom key i bs ≡ some k → k < i + length bs
-unfolding findFrom
-below [] key i k e = let z : _≡_ {A = ℕ} 0 1 = cc in absurd (omega arith)
-below (b ∷ bs) key i k e = go (eqb (sounding b) key) refl (below bs key (i + 1) k)
-  where
-    go : (q : Bool) → eqb (sounding b) key ≡ q → (findFrom key (i + 1) bs ≡ some k → k < i + 1 + length bs) → k < i + suc (length bs)
-    go true f ih = let z : i ≡ k = cc in omega arith
-    go false f ih = let r : k < i + 1 + length bs = ih (simp f at e) in omega arith
+below bs key i k e =
+    let f = found-from key i bs k e in
+    omega (arith, f .numbered, f .there)

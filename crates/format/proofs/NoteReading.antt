@@ -1,16 +1,16 @@
 -- The reading of notes, by the tests that led there. Assumes nothing.
 use Prim.Native.Nat.{ℕ, zero, suc, _+_, _-_, _*_, _≤_, _<_}
 use mathlib.Core.Path.{_≡_, refl, sym, ap, _∙_}
-use mathlib.Core.Bool.{Bool, true, false}
+use mathlib.Core.Bool.{true, false}
 use mathlib.Core.List.{List, [], _∷_, _++_, map}
-use mathlib.Core.Option.{Option, none, some}
+use mathlib.Core.Option.{none, some}
 use native.Mathlib.Nat.{sub-zero, add-zero}
 use native.Mathlib.Omega.{arith}
 use lib.Dec.{leb, ltb}
 use lib.ListN.{length, getD, take, drop, length-append, length-drop, List·getD-append}
 use lib.Seq.{length-take-le, getD-take, getD-append-add, getD-drop}
 use borrow.Author.Count.{below-more}
-use borrow.Author.Tests.{le-leb, lt-leb, lt-ltb, le-ltb, leb-true, leb-false, ltb-true, ltb-false}
+use borrow.Author.Tests.{le-leb, lt-leb, lt-ltb, le-ltb, ltb-true}
 use Rattle.model.specs.Jobs.{Job, job, nearest}
 use Rattle.format.specs.Bytes.{byteAt, be32, within}
 use Rattle.format.specs.Phrase.{Bell, Note, bellOf, jobOf}
@@ -19,8 +19,7 @@ use Rattle.format.specs.Reading.{Outcome, ok, refused, noteBytes, mostLi
 use Rattle.format.specs.Rows.{jobWords, jobRowsFrom}
 use Rattle.format.specs.Tables.{placed, WholeNote, bellWord, nearestIn, noteRow, jobRows, HoldsJobs}
 use Rattle.format.proofs.Outcomes.{same}
-use Rattle.format.proofs.Passed.{never}
-use Rattle.format.proofs.Passed.{within-true}
+use Rattle.format.proofs.Passed.{within-true, required, bound, found}
 use Rattle.format.proofs.Placing.{take-placed, placed-word}
 use Rattle.format.proofs.Listed.{listed-few}
 use Rattle.format.proofs.JobRows.{row-length, row-bell, job-new, job-old, rows-more, nearest-in}
@@ -67,32 +66,21 @@ module _ (bs : List Bell) (own at : ℕ) (p : List ℕ) where
   -- what a note that was read says of its record
   module _ (a : Note) where
     fields-listed : noteFields bs own at p ≡ ok a → a .listed ≡ listedIn p
-    unfolding noteIn
-    fields-listed e = go (find (byteAt p 1) bs) (areTimes (be32 p 2) (be32 p 6) (be32 p 10)) (rises own 0 (listedIn p)) refl refl refl
-      where
-        not : (n : ℕ) → noteFields bs own at p ≡ refused n at → ⊥
-        not n f = never n at (sym f ∙ e)
+    unfolding noteFields noteIn
+    fields-listed e =
+        let bell = found (find (byteAt p 1) bs) 10 at e in
+        let time = required (areTimes (be32 p 2) (be32 p 6) (be32 p 10)) 11 at (bell .2) in
+        let rise = required (rises own 0 (listedIn p)) 12 at (time .1) in
+        ap (λ (n : Note). n .listed) (same a (noteIn p (bell .0)) (sym (rise .1)))
 
-        go : (o : Option ℕ) (t r : Bool) → find (byteAt p 1) bs ≡ o → areTimes (be32 p 2) (be32 p 6) (be32 p 10) ≡ t → rises own 0 (listedIn p) ≡ r → a .listed ≡ listedIn p
-        go none t r f g h = absurd (not 10 (no-bell f))
-        go (some bell) false r f g h = absurd (not 11 (bad-times bell f g))
-        go (some bell) true false f g h = absurd (not 12 (bad-listed bell f g h))
-        go (some bell) true true f g h = ap (λ (n : Note). n .listed) (same a (noteIn p bell) (sym e ∙ right bell f g h))
-
-    pub record-is : noteRecord bs own at p ≡ ok a → WholeNote p × (a .listed ≡ listedIn p)
-    record-is e = go (leb 1 (length p)) (within noteBytes (noteBytes + mostListed) (byteAt p 0)) (ltb (byteAt p 0) (length p)) refl refl refl
-      where
-        not : (n : ℕ) → noteRecord bs own at p ≡ refused n at → ⊥
-        not n f = never n at (sym f ∙ e)
-
-        go : (t u v : Bool) → leb 1 (length p) ≡ t → within noteBytes (noteBytes + mostListed) (byteAt p 0) ≡ u → ltb (byteAt p 0) (length p) ≡ v → WholeNote p × (a .listed ≡ listedIn p)
-        go false u v x y z = absurd (not 3 (no-length (leb-false 1 (length p) x)))
-        go true false v x y z = absurd (not 9 (bad-length (leb-true 1 (length p) x) y))
-        go true true false x y z = absurd (not 3 (cut (leb-true 1 (length p) x) y (ltb-false (byteAt p 0) (length p) z)))
-        go true true true x y z =
-            let w = within-true noteBytes (noteBytes + mostListed) (byteAt p 0) y in
-            let l = ltb-true (byteAt p 0) (length p) z in
-            (record { least = w .0; most = w .1; whole = l }, fields-listed (sym (there (leb-true 1 (length p) x) y l) ∙ e))
+    record-is : noteRecord bs own at p ≡ ok a → WholeNote p × (a .listed ≡ listedIn p)
+    unfolding noteRecord
+    record-is e =
+        let some = required (leb 1 (length p)) 3 at e in
+        let size = required (within noteBytes (noteBytes + mostListed) (byteAt p 0)) 9 at (some .1) in
+        let long = required (ltb (byteAt p 0) (length p)) 3 at (size .1) in
+        let w = within-true noteBytes (noteBytes + mostListed) (byteAt p 0) (size .0) in
+        (record { least = w .0; most = w .1; whole = ltb-true (byteAt p 0) (length p) (long .0) }, fields-listed (long .1))
 
 -- ---- note by note
 
@@ -222,17 +210,13 @@ holds-none bs t = refl
 -- as many notes as asked for
 pub notes-count : (s : List ℕ) (bs : List Bell) (k at : ℕ) (ns ms : List Note) → notesFrom s bs k at ns ≡ ok ms → length ms ≡ length ns + k
 unfolding notesFrom
-notes-count s bs zero at ns ms e = go (leb (length s) at) refl
-  where
-    go : (t : Bool) → leb (length s) at ≡ t → length ms ≡ length ns + 0
-    go true f = ap length (sym (same ns ms (simp f at e))) ∙ sym (add-zero (length ns))
-    go false f = absurd (never 3 at (simp f at e))
-notes-count s bs (suc k) at ns ms e = go (λ a. notes-count s bs k (at + (1 + byteAt s at)) (ns ++ a ∷ []) ms) (noteRecord bs (length ns) at (drop at s)) refl
-  where
-    go : ((a : Note) → notesFrom s bs k (at + (1 + byteAt s at)) (ns ++ a ∷ []) ≡ ok ms → length ms ≡ length (ns ++ a ∷ []) + k)
-        → (o : Outcome Note) → noteRecord bs (length ns) at (drop at s) ≡ o → length ms ≡ length ns + suc k
-    go ih (ok a) f = ih a (simp f at e) ∙ omega (arith, length-append ns (a ∷ []))
-    go ih (refused r to) f = absurd (never r to (simp f at e))
+notes-count s bs zero at ns ms e =
+    let end = required (leb (length s) at) 3 at e in
+    ap length (sym (same ns ms (end .1))) ∙ sym (add-zero (length ns))
+notes-count s bs (suc k) at ns ms e =
+    let step = bound (noteRecord bs (length ns) at (drop at s)) e in
+    let those = notes-count s bs k (at + (1 + byteAt s at)) (ns ++ step .0 ∷ []) ms (step .2) in
+    omega (arith, those, length-append ns (step .0 ∷ []))
 
 -- ---- the count, and the notes
 

@@ -1,10 +1,11 @@
 -- A row placed in a table of words. Assumes nothing.
+use native.Mathlib.Nat.{add-assoc}
 use Prim.Native.Nat.{ℕ, _+_, _-_, _≤_, _<_}
 use mathlib.Core.Path.{_≡_, sym, ap, _∙_}
 use mathlib.Core.List.{List, _++_, append-nil, append-assoc}
 use native.Mathlib.Omega.{arith}
 use lib.ListN.{length, getD, take, drop, length-append, length-drop, drop-of-length-le}
-use lib.Seq.{length-take-le, take-at, getD-take, sets, sets-eq, drop-drop, take-all}
+use lib.Seq.{length-take-le, take-at, drop-at, getD-take, sets, sets-eq, drop-drop, take-all}
 use borrow.Rule.Slice.PartMut.{putMid}
 use Rattle.format.specs.Tables.{placed}
 
@@ -32,10 +33,27 @@ pub put-placed : (t : List ℕ) (at n : ℕ) (row : List ℕ) → length row ≡
 unfolding placed
 put-placed t at n row l = rw (drop-drop, l)
 
--- every word of a row that was stored, from the first on
-pub stored : (l ws : List ℕ) → length l ≡ length ws → sets l 0 ws ≡ ws
-stored l ws e =
-    sets-eq ws l 0 (omega arith) ∙ ap (λ (r : List ℕ). ws ++ r) (drop-of-length-le l {i = 0 + length ws} (omega arith)) ∙ append-nil ws
+-- words stored one by one from a place on
+pub stored : (t : List ℕ) (at : ℕ) (ws : List ℕ) → at + length ws ≤ length t → sets t at ws ≡ placed t at ws
+unfolding placed
+stored t at ws h = sets-eq ws t at h ∙ append-assoc (take at t) ws (drop (at + length ws) t)
+
+-- a row in the place of the whole
+pub placed-whole : (t ws : List ℕ) → length t ≡ length ws → placed t 0 ws ≡ ws
+unfolding placed
+placed-whole t ws e = ap (λ (r : List ℕ). ws ++ r) (drop-of-length-le t {i = 0 + length ws} (omega arith)) ∙ append-nil ws
+
+-- a row after a row is one row
+pub placed-append : (t : List ℕ) (at n : ℕ) (ws vs : List ℕ) → at ≤ length t → at + length ws ≡ n → placed (placed t at ws) n vs ≡ placed t at (ws ++ vs)
+unfolding placed
+placed-append t at n ws vs h e =
+    let next = placed t at ws in
+    let front : take n next ≡ take at t ++ ws = ap (λ (k : ℕ). take k next) (sym e) ∙ take-placed t at ws h in
+    let after : drop (at + length ws) next ≡ drop (at + length ws) t =
+    ap (drop (at + length ws)) (split t at ws h) ∙ drop-at (take at t ++ ws) (drop (at + length ws) t) (at + length ws) (head-length t at ws h) in
+    let back : drop (n + length vs) next ≡ drop (at + length ws + length vs) t =
+    ap (λ (k : ℕ). drop (k + length vs) next) (sym e) ∙ sym (drop-drop (length vs) (at + length ws) next) ∙ ap (drop (length vs)) after ∙ drop-drop (length vs) (at + length ws) t in
+    (λ i. front i ++ (vs ++ back i)) ∙ simp (append-assoc, length-append, add-assoc)
 
 -- the part of s from a place to its end, as the code lends it
 pub tail-is : (s : List ℕ) (at : ℕ) → take (length s - at) (drop at s) ≡ drop at s

@@ -3,21 +3,22 @@ use Prim.Native.Nat.{ℕ, _+_, _-_, _≤_, _<_}
 use mathlib.Core.Path.{_≡_, refl, ap, _∙_}
 use mathlib.Core.Bool.{Bool, true, _&&_}
 use mathlib.Core.List.{List, [], _++_}
-use mathlib.Core.Option.{none, some}
 use native.Mathlib.Omega.{arith}
 use lib.Dec.{leb}
 use lib.ListN.{length, length-append}
 use lib.Seq.{take-at}
-use borrow.Author.Tests.{leb-true, le-leb, lt-ltb}
-use Rattle.format.specs.Bytes.{byteAt, be32, within}
+use borrow.Author.Tests.{leb-true}
+use Rattle.format.specs.Bytes.{byteAt, within}
 use Rattle.format.specs.Phrase.{Bell, sounding, Note}
 use Rattle.model.specs.Limits.{longestExecution, latestTime}
-use Rattle.format.specs.Reading.{bellBytes, noteBytes, mostListed, lowestKey, highestKey, ok, bellIn, isTransposition, isExecutionRange, bellInRange, find, bellRecord, areTimes, rises, listedIn, noteIn, noteFields, noteRecord}
+use Rattle.format.specs.Reading.{bellBytes, noteBytes, mostListed, lowestKey, highestKey, ok, bellIn, isTransposition, isExecutionRange, bellInRange, find, bellRecord, areTimes, rises, listedIn, noteIn, noteRecord}
 use Rattle.format.specs.Valid.{ValidBell, ValidNote}
 use Rattle.format.specs.Writing.{bellFile, noteFile}
 use Rattle.model.proofs.Booleans.{and-left, and-right}
 use Rattle.format.proofs.Passed.{within-true, true-within}
 use Rattle.format.proofs.Digits.{be16-digits, be32-digits}
+use Rattle.format.proofs.BellReading.{whole}
+use Rattle.format.proofs.NoteReading.{right, there}
 
 -- ---- a bell
 
@@ -44,11 +45,6 @@ bell-ranges b e =
     let sounds = within-true lowestKey highestKey (sounding b) (and-left (isKey (sounding b)) _ r) in
     record { written = written .1; sounds = sounds .1; execution = executions (b .leastExecution) (b .mostExecution) (and-right (isKey (sounding b)) _ r) }
 
-bell-good : (before : List Bell) (at : ℕ) (p : List ℕ) → bellBytes ≤ length p → bellInRange (bellIn p) ≡ true → find (sounding (bellIn p)) before ≡ none
-    → bellRecord before at p ≡ ok (bellIn p)
-unfolding bellRecord
-bell-good before at p l e f = simp (le-leb bellBytes (length p) l, e, f)
-
 bell-read : (b : Bell) → b .leastExecution < 65536 → b .mostExecution < 65536 → (more : List ℕ) → bellIn (bellFile b ++ more) ≡ b
 unfolding bellIn bellFile
 bell-read b ca cb more =
@@ -69,7 +65,7 @@ bell-back before b v at more =
     let r = bell-ranges b (v .inRange) in
     let same : bellIn (bellFile b ++ more) ≡ b = bell-read b (omega arith) (omega arith) more in
     let long : bellBytes ≤ length (bellFile b ++ more) = omega (arith, bell-length b, length-append (bellFile b) more) in
-    bell-good before at (bellFile b ++ more) long (ap bellInRange same ∙ v .inRange) (ap (λ (c : Bell). find (sounding c) before) same ∙ v .alone) ∙ ap ok same
+    whole before at (bellFile b ++ more) long (ap bellInRange same ∙ v .inRange) (ap (λ (c : Bell). find (sounding c) before) same ∙ v .alone) ∙ ap ok same
 
 -- ---- a note
 
@@ -79,19 +75,6 @@ times ra rb d e =
     let r : leb rb latestTime && leb d latestTime ≡ true = and-right (leb ra rb) _ e in
     let order = leb-true ra rb (and-left (leb ra rb) _ e) in
     (order, leb-true rb latestTime (and-left (leb rb latestTime) _ r), leb-true d latestTime (and-right (leb rb latestTime) _ r))
-
-fields-good : (bells : List Bell) (own at : ℕ) (p : List ℕ) (bell : ℕ) → find (byteAt p 1) bells ≡ some bell
-    → areTimes (be32 p 2) (be32 p 6) (be32 p 10) ≡ true → rises own 0 (listedIn p) ≡ true
-    → noteFields bells own at p ≡ ok (noteIn p bell)
-unfolding noteFields
-fields-good bells own at p bell f e g = simp (f, e, g)
-
-note-good : (bells : List Bell) (own at : ℕ) (p : List ℕ) → noteBytes ≤ byteAt p 0 → byteAt p 0 ≤ noteBytes + mostListed → byteAt p 0 < length p
-    → noteRecord bells own at p ≡ noteFields bells own at p
-unfolding noteRecord
-note-good bells own at p low high l =
-    let some : 1 ≤ length p = omega arith in
-    simp (le-leb 1 (length p) some, true-within noteBytes (noteBytes + mostListed) (byteAt p 0) (low, high), lt-ltb (byteAt p 0) (length p) l)
 
 note-read : (n : Note) → n .earliestRelease < 4294967296 → n .latestRelease < 4294967296 → n .deadline < 4294967296 → (more : List ℕ)
     → noteIn (noteFile n ++ more) (n .bell) ≡ n
@@ -130,6 +113,7 @@ note-back bells before n v at more =
     let few = v .few in
     let long : byteAt p 0 < length p = omega (arith, note-length n, length-append (noteFile n) more) in
     let key = ap (λ (k : ℕ). find k bells) (note-key n more) ∙ v .sounds in
-    let right = ap (λ (m : Note). areTimes (m .earliestRelease) (m .latestRelease) (m .deadline)) same ∙ v .times in
+    let timely = ap (λ (m : Note). areTimes (m .earliestRelease) (m .latestRelease) (m .deadline)) same ∙ v .times in
     let rise = ap (λ (m : Note). rises own 0 (m .listed)) same ∙ v .rising in
-    note-good bells own at p (omega arith) (omega arith) long ∙ fields-good bells own at p (n .bell) key right rise ∙ ap ok same
+    let sized = true-within noteBytes (noteBytes + mostListed) (byteAt p 0) (omega arith, omega arith) in
+    there bells own at p (omega arith) sized long ∙ right bells own at p (n .bell) key timely rise ∙ ap ok same

@@ -25,13 +25,13 @@ each-at P before (x ∷ xs) h zero d l = rw append-nil (h .0)
 each-at P before (x ∷ xs) h (suc i) d l = rw append-assoc at (each-at P (before ++ x ∷ []) xs (h .1) i d (le-of-suc-le-suc l))
 
 -- a bell's number, counted on from i: the bell is there, and sounds for the key
-record Found (key i : ℕ) (bells : List Bell) (number : ℕ) : Type 0 where
-  place : ℕ
-  numbered : number ≡ i + place
-  there : place < length bells
-  sounds : sounding (getD bells place noBell) ≡ key
+pub record Found (key i : ℕ) (bells : List Bell) (number : ℕ) : Type 0 where
+  pub place : ℕ
+  pub numbered : number ≡ i + place
+  pub there : place < length bells
+  pub sounds : sounding (getD bells place noBell) ≡ key
 
-found-from : (key i : ℕ) (bells : List Bell) (number : ℕ) → findFrom key i bells ≡ some number → Found key i bells number
+pub found-from : (key i : ℕ) (bells : List Bell) (number : ℕ) → findFrom key i bells ≡ some number → Found key i bells number
 unfolding findFrom
 found-from key i [] number e = let z : _≡_ {A = ℕ} 0 1 = cc in absurd (omega arith)
 found-from key i (b ∷ bs) number e = go (eqb (sounding b) key) refl e (found-from key (i + 1) bs number)

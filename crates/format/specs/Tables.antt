@@ -62,7 +62,10 @@ pub record WholeNote (p : List ℕ) : Type 0 where
   pub most : byteAt p 0 ≤ noteBytes + mostListed
   pub whole : byteAt p 0 < length p
 
--- the word of a job's row that has its bell
+-- the words of a job's row that have the count of its predecessors, and its bell
+abbrev pub countWord : ℕ
+countWord = 6
+
 abbrev pub bellWord : ℕ
 bellWord = 12
 
@@ -71,22 +74,27 @@ unfoldable pub nearestIn : List ℕ → ℕ → ℕ → Option ℕ
 nearestIn t bell zero = none
 nearestIn t bell (suc n) = cond (eqb (getD t (n * jobWords + bellWord) 0) bell) (some n) (nearestIn t bell n)
 
--- the row of a note's job, from its bell, the note, and the nearest earlier job on the bell
-unfoldable pub noteRow : Bell → Note → Option ℕ → List ℕ
-noteRow b n earlier =
-    n .earliestRelease
-    ∷ n .latestRelease
+-- the row of a note's job: what the analysis asks of it, its predecessors, and what the report asks
+unfoldable pub demandWords : Bell → ℕ → ℕ → ℕ → List ℕ
+demandWords b earliest latest deadline =
+    earliest
+    ∷ latest
     ∷ b .leastExecution
     ∷ b .mostExecution
-    ∷ n .deadline
+    ∷ deadline
     ∷ b .priority
-    ∷ length (n .listed ++ asList earlier)
-    ∷ padded mostPredecessors (n .listed ++ asList earlier)
-    ++ n .bell
-    ∷ n .key
-    ∷ length (n .listed)
-    ∷ 0
     ∷ []
+
+unfoldable pub predecessorWords : List ℕ → List ℕ
+predecessorWords l = length l ∷ padded mostPredecessors l
+
+unfoldable pub originWords : Note → List ℕ
+originWords n = n .bell ∷ n .key ∷ length (n .listed) ∷ 0 ∷ []
+
+unfoldable pub noteRow : Bell → Note → Option ℕ → List ℕ
+unfolding demandWords predecessorWords originWords
+noteRow b n earlier =
+    demandWords b (n .earliestRelease) (n .latestRelease) (n .deadline) ++ (predecessorWords (n .listed ++ asList earlier) ++ originWords n)
 
 -- the table once the record of note `own` has been read
 abbrev pub notePut : List Bell → Outcome Note → List ℕ → ℕ → List ℕ

@@ -15,11 +15,11 @@ ghost use Rattle.format.specs.Results.{foundOf, stepOf};
 ghost use Rattle.format.specs.Tables.{placed, listOf, bellsIn, BellTable, bellPut, HoldsBells};
 
 // Where the file has the bells.
-const COUNT_AT: usize = 6;
+pub const BELL_COUNT_AT: usize = 6;
 
 const BELLS_AT: usize = 7;
 
-const MOST_BELLS: u32 = 96;
+pub const MOST_BELLS: u32 = 96;
 
 // A bell record.
 const BELL_BYTES: usize = 7;
@@ -49,6 +49,10 @@ pub const BELL_MOST_EXECUTION: usize = 4;
 
 pub const BELL_PRIORITY: usize = 5;
 
+const SPARE: usize = 6;
+
+const LAST_SPARE: usize = 7;
+
 const LOWEST_KEY: u32 = 12;
 
 const HIGHEST_KEY: u32 = 119;
@@ -73,6 +77,7 @@ fn sounding_key(part: &[u8]) -> u32
     written + transposition - 256
 }
 
+// -24 to 24, as a signed byte.
 fn is_transposition(t: u32) -> bool
     ensures { λ r. ⌜ r ≡ isTransposition t ⌝ }
 {
@@ -91,6 +96,7 @@ fn is_execution_range(least: u32, most: u32) -> bool
     most <= LONGEST_EXECUTION
 }
 
+// Whether every field of the bell is in its range; `key` is the one that it sounds for.
 fn is_in_range(part: &[u8], key: u32) -> bool
     requires { ⌜ (bellBytes ≤ length (now part)) × (key ≡ sounding (bellIn (now part))) ⌝ }
     ensures { λ r. ⌜ r ≡ bellInRange (bellIn (now (part .entry))) ⌝ }
@@ -125,6 +131,7 @@ pub fn find_bell(bells: &[u32], n: usize, key: u32) -> Found
     Found::Nothing
 }
 
+// The bell's row; `key` is the one that it sounds for.
 fn write_bell(part: &[u8], key: u32, row: &mut [u32])
     requires { ⌜ (bellBytes ≤ length (now part)) × (key ≡ sounding (bellIn (now part))) × (length (now row) ≡ bellWords) ⌝ }
     ensures { λ _. ⌜ now (row .exit) ≡ bellRow (bellIn (now (part .entry))) ⌝ }
@@ -135,10 +142,11 @@ fn write_bell(part: &[u8], key: u32, row: &mut [u32])
     row[BELL_LEAST_EXECUTION] = be_16(part, LEAST_EXECUTION_AT);
     row[BELL_MOST_EXECUTION] = be_16(part, MOST_EXECUTION_AT);
     row[BELL_PRIORITY] = byte(part, PRIORITY_AT);
-    row[6] = 0;
-    row[7] = 0;
+    row[SPARE] = 0;
+    row[LAST_SPARE] = 0;
 }
 
+// Writes row i.
 fn put_bell(part: &[u8], key: u32, bells: &mut [u32], i: usize)
     requires { ⌜ (bellBytes ≤ length (now part)) × (key ≡ sounding (bellIn (now part))) × ((i + 1) * bellWords ≤ length (now bells)) ⌝ }
     ensures { λ _. ⌜ now (bells .exit) ≡ placed (now (bells .entry)) (i * bellWords) (bellRow (bellIn (now (part .entry)))) ⌝ }
@@ -169,6 +177,7 @@ fn read_bell(part: &[u8], at: usize, bells: &mut [u32], i: usize) -> Step
     Step::Taken
 }
 
+// The first n bells, in rows from the first on.
 fn bells_from(file: &[u8], n: usize, bells: &mut [u32]) -> Step
     requires { ⌜ (bellsAt ≤ length (now file)) × (n ≤ mostBells) × (mostBells * bellWords ≤ length (now bells)) ⌝ }
     ensures { λ r. ⌜ r ≡ stepOf (bellsFrom (now (file .entry)) n bellsAt []) ⌝ }
@@ -193,12 +202,12 @@ pub fn read_bells(file: &[u8], bells: &mut [u32]) -> Step
     ensures { λ r. ⌜ r ≡ stepOf (bellsOf (now (file .entry))) ⌝ }
     ensures { λ _. ⌜ HoldsBells (listOf (bellsOf (now (file .entry)))) (now (bells .exit)) ⌝ }
 {
-    if file.len() <= COUNT_AT {
-        return Step::Refused(3, COUNT_AT);
+    if file.len() <= BELL_COUNT_AT {
+        return Step::Refused(3, BELL_COUNT_AT);
     }
-    let count = byte(file, COUNT_AT);
+    let count = byte(file, BELL_COUNT_AT);
     if !is_within(1, MOST_BELLS, count) {
-        return Step::Refused(5, COUNT_AT);
+        return Step::Refused(5, BELL_COUNT_AT);
     }
     bells_from(file, count as usize, bells)
 }

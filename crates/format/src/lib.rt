@@ -3,14 +3,18 @@ pub mod bells;
 pub mod bytes;
 pub mod notes;
 
+use crate::bells::BELL_COUNT_AT;
 use crate::bells::BELL_WORDS;
+use crate::bells::MOST_BELLS;
 use crate::bells::note_count_at;
 use crate::bells::read_bells;
 use crate::bytes::be_32;
 use crate::bytes::byte;
 use crate::bytes::is_within;
 use crate::notes::JOB_WORDS;
+use crate::notes::MOST_NOTES;
 use crate::notes::read_notes;
+use words::clear;
 ghost use mathlib.Core.Path.{_≡_};
 ghost use mathlib.Core.List.{_++_};
 ghost use Prim.Native.Nat.{_-_, _*_, _≤_, _<_};
@@ -33,14 +37,12 @@ const HEADER_BYTES: usize = 5;
 
 const CORES_AT: usize = 5;
 
-const BELL_COUNT_AT: usize = 6;
-
 const MOST_CORES: u32 = 8;
 
 // The tables: a row for each bell and for each job that a phrase can have.
-pub const BELL_TABLE: usize = 96 * BELL_WORDS;
+pub const BELL_TABLE: usize = MOST_BELLS as usize * BELL_WORDS;
 
-pub const JOB_TABLE: usize = 64 * JOB_WORDS;
+pub const JOB_TABLE: usize = MOST_NOTES as usize * JOB_WORDS;
 
 // What a phrase file holds: the rows that were filled are the first of each table.
 pub struct Counts {
@@ -68,6 +70,7 @@ pub enum Found {
     Nothing,
 }
 
+// The version, the count of bytes and the cores.
 fn read_header(file: &[u8]) -> Step
     ensures { λ r. ⌜ r ≡ stepOf (headerOf (now (file .entry))) ⌝ }
 {
@@ -127,7 +130,7 @@ fn read_body(file: &[u8], bells: &mut [u32], jobs: &mut [u32]) -> Reading
     Reading::Whole(counts_in(file, n))
 }
 
-// The tables begin with the rows that were read.
+// Reads the rows to the beginning of each table, and leaves the rest of it as it comes.
 fn read_rows(file: &[u8], bells: &mut [u32], jobs: &mut [u32]) -> Reading
     requires { ⌜ (mostBells * bellWords ≤ length (now bells)) × (mostJobs * jobWords ≤ length (now jobs)) ⌝ }
     ensures { λ r. ⌜ r ≡ readingOf (reading (now (file .entry))) ⌝ }
@@ -140,6 +143,7 @@ fn read_rows(file: &[u8], bells: &mut [u32], jobs: &mut [u32]) -> Reading
     read_body(file, bells, jobs)
 }
 
+// The counts of what was read, zeros on a refusal.
 fn counts_of(reading: Reading) -> Counts
     ensures { λ r. ⌜ r ≡ countsOf reading ⌝ }
 {
@@ -151,16 +155,6 @@ fn counts_of(reading: Reading) -> Counts
             bells: 0,
             jobs: 0,
         },
-    }
-}
-
-fn clear(words: &mut [u32])
-    ensures { λ _. ⌜ now (words .exit) ≡ replicate (length (now (words .entry))) 0 ⌝ }
-{
-    let mut i = 0;
-    while i < words.len() {
-        words[i] = 0;
-        i += 1;
     }
 }
 

@@ -15,12 +15,12 @@ ghost use mathlib.Core.List.{[], _++_};
 ghost use Prim.Native.Nat.{_+_, _-_, _*_, _≤_, _<_};
 ghost use lib.ListN.{length, drop};
 ghost use Rattle.model.specs.Jobs.{asList};
-ghost use Rattle.format.specs.Bytes.{byteAt};
+ghost use Rattle.format.specs.Bytes.{byteAt, be32};
 ghost use Rattle.model.specs.Limits.{mostJobs};
-ghost use Rattle.format.specs.Reading.{bellCountAt, noteCountAt, noteBytes, mostBells, mostListed, areTimes, rises, listedIn, noteIn, noteFields, noteRecord, notesFrom, notesOf};
+ghost use Rattle.format.specs.Reading.{bellCountAt, mostBells, areTimes, rises, listedIn, noteIn, noteFields, noteRecord, notesFrom, notesOf};
 ghost use Rattle.format.specs.Rows.{bellWords, jobWords, mostPredecessors, padded};
 ghost use Rattle.format.specs.Results.{foundOf, stepOf, optionOf, predecessorsOf};
-ghost use Rattle.format.specs.Tables.{placed, listOf, bellAt, bellsIn, BellTable, WholeNote, nearestIn, noteRow, notePut, HoldsJobs};
+ghost use Rattle.format.specs.Tables.{placed, listOf, bellAt, bellsIn, BellTable, WholeNote, countWord, bellWord, nearestIn, demandWords, predecessorWords, originWords, noteRow, notePut, HoldsJobs};
 
 // A note record: its length byte counts what follows it, NOTE_BYTES and a byte for each listed job.
 const NOTE_BYTES: u32 = 13;
@@ -64,9 +64,11 @@ const KEY: usize = 13;
 
 const LISTED_COUNT: usize = 14;
 
+const SPARE: usize = 15;
+
 const MOST_PREDECESSORS: usize = 5;
 
-const MOST_NOTES: u32 = 64;
+pub const MOST_NOTES: u32 = 64;
 
 const LATEST_TIME: u32 = 3600000;
 
@@ -76,6 +78,7 @@ pub struct Predecessors {
     pub jobs: [u32; MOST_PREDECESSORS],
 }
 
+// The deadline is free against the releases.
 fn are_times(earliest: u32, latest: u32, deadline: u32) -> bool
     ensures { λ r. ⌜ r ≡ areTimes earliest latest deadline ⌝ }
 {
@@ -88,6 +91,7 @@ fn are_times(earliest: u32, latest: u32, deadline: u32) -> bool
     deadline <= LATEST_TIME
 }
 
+// How many jobs the note lists.
 fn listed_count(part: &[u8]) -> u32
     requires { ⌜ WholeNote (now part) ⌝ }
     ensures { λ r. ⌜ r ≡ length (listedIn (now (part .entry))) ⌝ }
@@ -101,11 +105,11 @@ fn do_rise(part: &[u8], own: u32) -> bool
     requires { ⌜ WholeNote (now part) ⌝ }
     ensures { λ r. ⌜ r ≡ rises own 0 (listedIn (now (part .entry))) ⌝ }
 {
-    let n = listed_count(part) as usize;
+    let end = byte(part, LENGTH_AT) as usize + 1;
     let mut low = 0;
-    let mut j = 0;
-    while j < n {
-        let job = byte(part, LISTED_AT + j);
+    let mut at = LISTED_AT;
+    while at < end {
+        let job = byte(part, at);
         if job < low {
             return false;
         }
@@ -113,7 +117,7 @@ fn do_rise(part: &[u8], own: u32) -> bool
             return false;
         }
         low = job + 1;
-        j += 1;
+        at += 1;
     }
     true
 }
@@ -133,6 +137,7 @@ fn nearest_job(jobs: &[u32], bell: u32, own: usize) -> Found
     Found::Nothing
 }
 
+// The jobs that the note lists, and zeros after them.
 fn listed_jobs(part: &[u8]) -> [u32; MOST_PREDECESSORS]
     requires { ⌜ WholeNote (now part) ⌝ }
     ensures { λ r. ⌜ r ≡ padded mostPredecessors (listedIn (now (part .entry))) ⌝ }
@@ -164,34 +169,62 @@ fn predecessors_of(part: &[u8], earlier: Found) -> Predecessors
     }
 }
 
-// The row of the note's job; the bell's row is where `bell_row` begins.
-fn write_job(part: &[u8], bell_row: &[u32], bell: u32, earlier: Found, row: &mut [u32])
+// What the analysis asks of the job; the bell's row is where `bell_row` begins.
+fn write_demand(part: &[u8], bell_row: &[u32], row: &mut [u32])
     requires { ⌜ WholeNote (now part) × (bellWords ≤ length (now «bell_row»)) × (length (now row) ≡ jobWords) ⌝ }
-    ensures { λ _. ⌜ now (row .exit) ≡ noteRow (bellAt (now («bell_row» .entry))) (noteIn (now (part .entry)) bell) (optionOf earlier) ⌝ }
+    ensures { λ _. ⌜ now (row .exit) ≡ placed (now (row .entry)) 0 (demandWords (bellAt (now («bell_row» .entry)))
+        (be32 (now (part .entry)) 2) (be32 (now (part .entry)) 6) (be32 (now (part .entry)) 10)) ⌝ }
 {
-    let before = predecessors_of(part, earlier);
-    let jobs = before.jobs;
     row[EARLIEST_RELEASE] = be_32(part, EARLIEST_RELEASE_AT);
     row[LATEST_RELEASE] = be_32(part, LATEST_RELEASE_AT);
     row[LEAST_EXECUTION] = bell_row[BELL_LEAST_EXECUTION];
     row[MOST_EXECUTION] = bell_row[BELL_MOST_EXECUTION];
     row[DEADLINE] = be_32(part, DEADLINE_AT);
     row[PRIORITY] = bell_row[BELL_PRIORITY];
+}
+
+fn write_predecessors(part: &[u8], earlier: Found, row: &mut [u32])
+    requires { ⌜ WholeNote (now part) × (length (now row) ≡ jobWords) ⌝ }
+    ensures { λ _. ⌜ now (row .exit)
+        ≡ placed (now (row .entry)) countWord (predecessorWords (listedIn (now (part .entry)) ++ asList (optionOf earlier))) ⌝ }
+{
+    let before = predecessors_of(part, earlier);
+    let jobs = before.jobs;
     row[PREDECESSOR_COUNT] = before.count;
     row[PREDECESSORS] = jobs[0];
     row[PREDECESSORS + 1] = jobs[1];
     row[PREDECESSORS + 2] = jobs[2];
     row[PREDECESSORS + 3] = jobs[3];
     row[PREDECESSORS + 4] = jobs[4];
+}
+
+// What the report asks of the job.
+fn write_origin(part: &[u8], bell: u32, row: &mut [u32])
+    requires { ⌜ WholeNote (now part) × (length (now row) ≡ jobWords) ⌝ }
+    ensures { λ _. ⌜ now (row .exit) ≡ placed (now (row .entry)) bellWord (originWords (noteIn (now (part .entry)) bell)) ⌝ }
+{
     row[BELL] = bell;
     row[KEY] = byte(part, KEY_AT);
     row[LISTED_COUNT] = listed_count(part);
-    row[15] = 0;
+    row[SPARE] = 0;
 }
 
+// The row of the note's job.
+fn write_job(part: &[u8], bell_row: &[u32], bell: u32, earlier: Found, row: &mut [u32])
+    requires { ⌜ WholeNote (now part) × (bellWords ≤ length (now «bell_row»)) × (length (now row) ≡ jobWords) ⌝ }
+    ensures { λ _. ⌜ now (row .exit) ≡ noteRow (bellAt (now («bell_row» .entry))) (noteIn (now (part .entry)) bell) (optionOf earlier) ⌝ }
+{
+    write_demand(part, bell_row, row);
+    write_predecessors(part, earlier, row);
+    write_origin(part, bell, row);
+}
+
+// Writes the row of job `own`, whose note strikes the bell.
 fn put_job(part: &[u8], bells: &[u32], bell: u32, jobs: &mut [u32], own: usize)
-    requires { ⌜ WholeNote (now part) × (bell < mostBells) × ((bell + 1) * bellWords ≤ length (now bells)) × (own < mostJobs) × ((own + 1) * jobWords ≤ length (now jobs)) ⌝ }
-    ensures { λ _. ⌜ now (jobs .exit) ≡ placed (now (jobs .entry)) (own * jobWords) (noteRow (bellAt (drop (bell * bellWords) (now (bells .entry)))) (noteIn (now (part .entry)) bell) (nearestIn (now (jobs .entry)) bell own)) ⌝ }
+    requires { ⌜ WholeNote (now part) × (bell < mostBells) × ((bell + 1) * bellWords ≤ length (now bells))
+        × (own < mostJobs) × ((own + 1) * jobWords ≤ length (now jobs)) ⌝ }
+    ensures { λ _. ⌜ now (jobs .exit) ≡ placed (now (jobs .entry)) (own * jobWords)
+        (noteRow (bellAt (drop (bell * bellWords) (now (bells .entry)))) (noteIn (now (part .entry)) bell) (nearestIn (now (jobs .entry)) bell own)) ⌝ }
 {
     let earlier = nearest_job(jobs, bell, own);
     let bell_at = bell as usize * BELL_WORDS;
@@ -211,7 +244,8 @@ fn note_fields(
 ) -> Step
     requires { ⌜ WholeNote (now part) × (n ≤ mostBells) × BellTable (now bells) n × (own < mostJobs) × ((own + 1) * jobWords ≤ length (now jobs)) ⌝ }
     ensures { λ r. ⌜ r ≡ stepOf (noteFields (bellsIn (now (bells .entry)) n) own at (now (part .entry))) ⌝ }
-    ensures { λ _. ⌜ now (jobs .exit) ≡ notePut (bellsIn (now (bells .entry)) n) (noteFields (bellsIn (now (bells .entry)) n) own at (now (part .entry))) (now (jobs .entry)) own ⌝ }
+    ensures { λ _. ⌜ now (jobs .exit)
+        ≡ notePut (bellsIn (now (bells .entry)) n) (noteFields (bellsIn (now (bells .entry)) n) own at (now (part .entry))) (now (jobs .entry)) own ⌝ }
 {
     let key = byte(part, KEY_AT);
     let Found::At(bell) = find_bell(bells, n, key) else {
@@ -234,7 +268,8 @@ fn note_fields(
 fn read_note(part: &[u8], at: usize, bells: &[u32], n: usize, jobs: &mut [u32], own: usize) -> Step
     requires { ⌜ (n ≤ mostBells) × BellTable (now bells) n × (own < mostJobs) × ((own + 1) * jobWords ≤ length (now jobs)) ⌝ }
     ensures { λ r. ⌜ r ≡ stepOf (noteRecord (bellsIn (now (bells .entry)) n) own at (now (part .entry))) ⌝ }
-    ensures { λ _. ⌜ now (jobs .exit) ≡ notePut (bellsIn (now (bells .entry)) n) (noteRecord (bellsIn (now (bells .entry)) n) own at (now (part .entry))) (now (jobs .entry)) own ⌝ }
+    ensures { λ _. ⌜ now (jobs .exit)
+        ≡ notePut (bellsIn (now (bells .entry)) n) (noteRecord (bellsIn (now (bells .entry)) n) own at (now (part .entry))) (now (jobs .entry)) own ⌝ }
 {
     if part.len() < 1 {
         return Step::Refused(3, at);
@@ -258,9 +293,11 @@ fn notes_from(
     n: usize,
     jobs: &mut [u32],
 ) -> Step
-    requires { ⌜ (start ≤ length (now file)) × (count ≤ mostJobs) × (n ≤ mostBells) × BellTable (now bells) n × (mostJobs * jobWords ≤ length (now jobs)) ⌝ }
+    requires { ⌜ (start ≤ length (now file)) × (count ≤ mostJobs)
+        × (n ≤ mostBells) × BellTable (now bells) n × (mostJobs * jobWords ≤ length (now jobs)) ⌝ }
     ensures { λ r. ⌜ r ≡ stepOf (notesFrom (now (file .entry)) (bellsIn (now (bells .entry)) n) count start []) ⌝ }
-    ensures { λ _. ⌜ HoldsJobs (bellsIn (now (bells .entry)) n) (listOf (notesFrom (now (file .entry)) (bellsIn (now (bells .entry)) n) count start [])) (now (jobs .exit)) ⌝ }
+    ensures { λ _. ⌜ HoldsJobs (bellsIn (now (bells .entry)) n)
+        (listOf (notesFrom (now (file .entry)) (bellsIn (now (bells .entry)) n) count start [])) (now (jobs .exit)) ⌝ }
 {
     let mut at = start;
     let mut i = 0;
@@ -282,7 +319,8 @@ fn notes_from(
 pub fn read_notes(file: &[u8], bells: &[u32], n: usize, jobs: &mut [u32]) -> Step
     requires { ⌜ (n ≡ byteAt (now file) bellCountAt) × (n ≤ mostBells) × BellTable (now bells) n × (mostJobs * jobWords ≤ length (now jobs)) ⌝ }
     ensures { λ r. ⌜ r ≡ stepOf (notesOf (now (file .entry)) (bellsIn (now (bells .entry)) n)) ⌝ }
-    ensures { λ _. ⌜ HoldsJobs (bellsIn (now (bells .entry)) n) (listOf (notesOf (now (file .entry)) (bellsIn (now (bells .entry)) n))) (now (jobs .exit)) ⌝ }
+    ensures { λ _. ⌜ HoldsJobs (bellsIn (now (bells .entry)) n)
+        (listOf (notesOf (now (file .entry)) (bellsIn (now (bells .entry)) n))) (now (jobs .exit)) ⌝ }
 {
     let at = note_count_at(n);
     if file.len() <= at {

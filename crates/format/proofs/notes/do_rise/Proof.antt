@@ -3,50 +3,55 @@ use mathlib.Core.Path.{_≡_, refl, sym, ap, _∙_}
 use Prim.Native.Nat.{_+_, _-_, _≤_}
 use native.Mathlib.Omega.{arith}
 use denote.Ref.{now}
-use lib.ListN.{length, drop}
-use Rattle.format.specs.Reading.{rises, listedIn}
-use Rattle.format.proofs.Listed.{listed-length, listed-few, low-one, high-one, next-one, last-one}
+use lib.ListN.{drop}
+use Rattle.format.specs.Bytes.{byteAt}
+use Rattle.format.specs.Reading.{noteBytes, rises, listedIn}
+use Rattle.format.proofs.Listed.{listed-length, low-one, high-one, next-one, last-one}
 use Rattle.format.proofs.notes.do_rise.Statement.{statement}
 use Rattle.format.proofs.notes.do_rise.Tie as tie
 
 abbrev Inv-loop : tie.InvT-loop
-Inv-loop part own n low₀ j₀ low j = (j ≤ n) × (n ≡ length (listedIn part)) × (rises own low (drop j (listedIn part)) ≡ rises own 0 (listedIn part))
+Inv-loop part own end low₀ at₀ low at =
+    (1 + noteBytes ≤ at)
+    × (at ≤ end)
+    × (end ≡ byteAt part 0 + 1)
+    × (rises own low (drop (at - (1 + noteBytes)) (listedIn part)) ≡ rises own 0 (listedIn part))
 
 abbrev μ-loop : tie.MeasureT-loop
-μ-loop part own n low₀ j₀ low j = n - j
-
-listed-count-requires : tie.Need-listed-count-requires Inv-loop μ-loop
-listed-count-requires c κs = c .before .pre
-
-cast-n : tie.Need-cast-n Inv-loop μ-loop
-cast-n c = omega (arith, listed-few (now (c .before .before .args .part)) (c .before .before .pre))
-
-loop-holds : tie.Need-loop-holds Inv-loop μ-loop
-loop-holds c = (omega arith, c .listed-count .ensures, refl)
-
-add-byte : tie.Need-add-byte Inv-loop μ-loop
-add-byte c = omega (arith, listed-few (now (c .before .before .before .before .args .part)) (c .before .before .before .before .pre))
+μ-loop part own end low₀ at₀ low at = end - at
 
 byte-requires : tie.Need-byte-requires Inv-loop μ-loop
-byte-requires c κs = omega (arith, listed-length (now (c .before .before .before .before .args .part)) (c .before .before .before .before .pre))
+byte-requires c κs = omega arith
+
+cast-end : tie.Need-cast-end Inv-loop μ-loop
+cast-end c = omega arith
+
+add-end : tie.Need-add-end Inv-loop μ-loop
+add-end c = omega arith
+
+loop-holds : tie.Need-loop-holds Inv-loop μ-loop
+loop-holds c = (omega arith, omega arith, ap (λ b. b + 1) (c .byte .ensures .0), refl)
+
+byte-requires-2 : tie.Need-byte-requires-2 Inv-loop μ-loop
+byte-requires-2 c κs = omega arith
 
 returns : tie.Need-returns Inv-loop μ-loop
 returns c =
     let a = c .before .before .before .before .before .before in
     let v = c .before .before .before .loop in
-    sym (low-one (now (a .args .part)) (a .pre) (v .j) (omega arith) (a .args .own) (v .low) (omega arith)) ∙ v .inv .2
+    sym (low-one (now (a .args .part)) (a .pre) (v .at) (v .inv .0) (omega arith) (a .args .own) (v .low) (omega arith)) ∙ v .inv .3
 
 returns-2 : tie.Need-returns-2 Inv-loop μ-loop
 returns-2 c =
     let a = c .before .before .before .before .before .before .before in
     let v = c .before .before .before .before .loop in
-    sym (high-one (now (a .args .part)) (a .pre) (v .j) (omega arith) (a .args .own) (v .low) (omega arith) (omega arith)) ∙ v .inv .2
+    sym (high-one (now (a .args .part)) (a .pre) (v .at) (v .inv .0) (omega arith) (a .args .own) (v .low) (omega arith) (omega arith)) ∙ v .inv .3
 
 add-low : tie.Need-add-low Inv-loop μ-loop
 add-low c = omega arith
 
-add-j : tie.Need-add-j Inv-loop μ-loop
-add-j c = omega arith
+add-at : tie.Need-add-at Inv-loop μ-loop
+add-at c = omega arith
 
 loop-less : tie.Need-loop-less Inv-loop μ-loop
 loop-less c = omega arith
@@ -56,16 +61,18 @@ loop-again c =
     let a = c .before .before .before .before .before .before .before in
     let v = c .before .before .before .before .loop in (
       omega arith,
-      v .inv .1,
-      ap (λ b. rises (a .args .own) (b + 1) (drop (v .j + 1) (listedIn (now (a .args .part))))) (c .before .before .byte .ensures .0)
-          ∙ sym (next-one (now (a .args .part)) (a .pre) (v .j) (omega arith) (a .args .own) (v .low) (omega arith) (omega arith)) ∙ v .inv .2,
+      omega arith,
+      v .inv .2,
+      ap (λ b. rises (a .args .own) (b + 1) (drop (v .at + 1 - (1 + noteBytes)) (listedIn (now (a .args .part))))) (c .before .before .byte2 .ensures .0)
+          ∙ sym (next-one (now (a .args .part)) (a .pre) (v .at) (v .inv .0) (omega arith) (a .args .own) (v .low) (omega arith) (omega arith)) ∙ v .inv .3,
     )
 
 returns-3 : tie.Need-returns-3 Inv-loop μ-loop
 returns-3 c =
-    let a = c .before .before .before .before .args in
+    let a = c .before .before .before .before in
+    let p = now (a .args .part) in
     let v = c .before .loop in
-    sym (last-one (listedIn (now (a .part))) (v .j) (a .own) (v .low) (omega arith)) ∙ v .inv .2
+    sym (last-one (listedIn p) (v .at - (1 + noteBytes)) (a .args .own) (v .low) (omega (arith, listed-length p (a .pre)))) ∙ v .inv .3
 
 pub do-rise-spec : {M : Type 1} → statement M
 do-rise-spec =
@@ -73,15 +80,15 @@ do-rise-spec =
     (tie.spec
     Inv-loop
     μ-loop
-    listed-count-requires
-    cast-n
-    loop-holds
-    add-byte
     byte-requires
+    cast-end
+    add-end
+    loop-holds
+    byte-requires-2
     returns
     returns-2
     add-low
-    add-j
+    add-at
     loop-less
     loop-again
     returns-3)
