@@ -1,0 +1,3 @@
+-- Laws of edges.
+pub mod Folds
+pub mod Edges

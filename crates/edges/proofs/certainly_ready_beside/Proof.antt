@@ -1,0 +1,93 @@
+-- `edges::certainly_ready_beside` meets its contract. The loop's invariant: the larger of `ready` and what the predecessors left give is the result.
+-- Assumes nothing.
+use Prim.Native.Nat.{ℕ, _-_, max}
+use mathlib.Core.Path.{_≡_}
+use mathlib.Core.Bool.{Bool, not}
+use native.Mathlib.Omega.{arith}
+use lib.ListN.{length, drop}
+use denote.Ref.{now}
+use borrow.Author.Needs.{needs}
+use Rattle.model.specs.Folds.{member, largest}
+use Rattle.model.specs.Jobs.{predecessors}
+use Rattle.model.specs.States.{latest, finishOf}
+use Rattle.model.specs.Edges.{certainlyReadyBeside}
+use Rattle.jobs.specs.Rows.{jobsOf}
+use Rattle.states.specs.Slots.{stateOf}
+use Rattle.edges.proofs.Folds.{largest-done, largest-goes-on}
+use Rattle.edges.proofs.certainly_ready_beside.Statement.{statement}
+use Rattle.edges.proofs.certainly_ready_beside.Tie as tie
+
+abbrev Inv-loop : tie.InvT-loop
+Inv-loop rows k s m i j n ready₀ h₀ ready h =
+    (n ≡ length (predecessors (jobsOf rows k) j))
+    × (max ready (largest (λ (w : ℕ). not (member w (predecessors (jobsOf rows k) i)))
+    (λ (w : ℕ). latest (finishOf (stateOf m k s) w)) (drop h (predecessors (jobsOf rows k) j)))
+    ≡ certainlyReadyBeside (jobsOf rows k) (stateOf m k s) i j)
+
+abbrev μ-loop : tie.MeasureT-loop
+μ-loop rows k s m i j n ready₀ h₀ ready h = n - h
+
+predecessor-count-requires : tie.Need-predecessor-count-requires Inv-loop μ-loop
+predecessor-count-requires c κs = search needs
+
+latest-release-requires : tie.Need-latest-release-requires Inv-loop μ-loop
+latest-release-requires c κs = search needs
+
+loop-holds : tie.Need-loop-holds Inv-loop μ-loop
+unfolding certainlyReadyBeside
+loop-holds c = (c .before .predecessor-count .ensures .0, rw (c .latest-release .ensures))
+
+predecessor-requires : tie.Need-predecessor-requires Inv-loop μ-loop
+predecessor-requires c κs = search needs
+
+latest-finish-beside-requires : tie.Need-latest-finish-beside-requires Inv-loop μ-loop
+latest-finish-beside-requires c κs = search needs
+
+larger-requires : tie.Need-larger-requires Inv-loop μ-loop
+larger-requires c κs = search needs
+
+add-h : tie.Need-add-h Inv-loop μ-loop
+add-h c = search needs
+
+loop-less : tie.Need-loop-less Inv-loop μ-loop
+loop-less c = search needs
+
+loop-again : tie.Need-loop-again Inv-loop μ-loop
+loop-again c =
+    let a = c .before .before .before .before .before .before .before .before .before .args in
+    let js = jobsOf (now (a .rows)) (a .k) in
+    let σ = stateOf (a .m) (a .k) (now (a .s)) in
+    let p : ℕ → Bool = λ w. not (member w (predecessors js (a .i))) in
+    let f : ℕ → ℕ = λ w. latest (finishOf σ w) in
+    let i = c .before .before .before .before .loop in (
+      i .inv .0,
+      rw (c .larger .ensures, c .before .latest-finish-beside .ensures, c .before .before .predecessor .ensures .0)
+          (largest-goes-on p f (predecessors js (a .j)) (i .h) (i .ready) (certainlyReadyBeside js σ (a .i) (a .j)) (i .inv .1) (omega (arith, i .inv .0))),
+    )
+
+returns : tie.Need-returns Inv-loop μ-loop
+returns c =
+    let a = c .before .before .before .before .before .before .args in
+    let js = jobsOf (now (a .rows)) (a .k) in
+    let σ = stateOf (a .m) (a .k) (now (a .s)) in
+    let p : ℕ → Bool = λ w. not (member w (predecessors js (a .i))) in
+    let f : ℕ → ℕ = λ w. latest (finishOf σ w) in
+    let i = c .before .loop in
+    largest-done p f (predecessors js (a .j)) (i .h) (i .ready) (certainlyReadyBeside js σ (a .i) (a .j)) (i .inv .1) (omega (arith, i .inv .0))
+
+pub certainly-ready-beside-spec : {M : Type 1} → statement M
+certainly-ready-beside-spec =
+    tie.close
+    (tie.spec
+    Inv-loop
+    μ-loop
+    predecessor-count-requires
+    latest-release-requires
+    loop-holds
+    predecessor-requires
+    latest-finish-beside-requires
+    larger-requires
+    add-h
+    loop-less
+    loop-again
+    returns)

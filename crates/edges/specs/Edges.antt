@@ -1,0 +1,56 @@
+-- What is given where the edges of a state are asked for, and what is answered. Assumes nothing.
+use Prim.Native.Nat.{ℕ, _≤_, _<_}
+use mathlib.Core.Path.{_≡_}
+use mathlib.Core.Bool.{Bool, _&&_, cond}
+use mathlib.Core.List.{List}
+use lib.ListN.{getD, length}
+use Rattle.model.specs.Limits.{latestTime}
+use Rattle.model.specs.Folds.{ind, Limit, infinite, finite, smallest}
+use Rattle.model.specs.Jobs.{Job, before}
+use Rattle.model.specs.States.{State}
+use Rattle.model.specs.Edges.{candidate, certainlyReady, earliestStart, eligible, latestStart}
+use Rattle.model.specs.Exploration.{stateWords}
+use Rattle.model.proofs.Bounds.{Bounded}
+use Rattle.jobs.specs.Rows.{jobsOf, Setting}
+use Rattle.states.specs.Slots.{stateOf}
+use Rattle.edges.specs.declared.Edge.{Edge}
+use Rattle.edges.specs.declared.Edge.the-variants.{NotEligible, Starts}
+
+-- the rows of a job set, and the words of a state
+pub record Readable (rows : List ℕ) (k : ℕ) (s : List ℕ) (m : ℕ) : Type 0 where
+  pub setting : Setting rows k m
+  pub words : stateWords m k ≤ length s
+
+-- the first k words say which jobs are candidates
+pub record Marked (js : List Job) (σ : State) (k : ℕ) (marks : List ℕ) : Type 0 where
+  pub long : k ≤ length marks
+  pub mark : (j : ℕ) → j < k → getD marks j 0 ≡ ind (candidate js σ j)
+
+-- a state whose edges are asked for: its times are bounded, and its candidates marked
+pub record Prepared (rows : List ℕ) (k : ℕ) (s : List ℕ) (m : ℕ) (marks : List ℕ) : Type 0 where
+  pub readable : Readable rows k s m
+  pub bounded : Bounded (jobsOf rows k) latestTime (stateOf m k s)
+  pub marked : Marked (jobsOf rows k) (stateOf m k s) k marks
+
+-- a limit in a word: no time is as large as the word for infinity
+abbrev pub noLimit : ℕ
+noLimit = 4294967295
+
+abbrev pub limitWord : Limit → ℕ
+limitWord infinite = noLimit
+limitWord (finite x) = x
+
+-- from when on some candidate is certainly ready; infinite where there is none
+unfoldable pub firstCertainlyReady : List Job → State → Limit
+unfolding smallest candidate certainlyReady
+firstCertainlyReady js σ = smallest (candidate js σ) (certainlyReady js σ) (length js)
+
+-- job j is a candidate that goes before job i
+unfoldable pub higherCandidate : List Job → State → ℕ → ℕ → Bool
+unfolding candidate before
+higherCandidate js σ i j = candidate js σ j && before js j i
+
+-- whether job i is eligible, and then its earliest and latest start
+unfoldable pub edgeOf : List Job → State → ℕ → Edge
+unfolding eligible earliestStart latestStart
+edgeOf js σ i = cond (eligible js σ i) (Starts (earliestStart js σ i) (latestStart js σ i)) NotEligible

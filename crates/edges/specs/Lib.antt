@@ -1,0 +1,2 @@
+-- Edges in words.
+pub mod Edges

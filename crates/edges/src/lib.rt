@@ -1,0 +1,232 @@
+// Which jobs may start next in a state, and when. There are k jobs, in `rows`, and m cores; the words `s` are the state.
+ghost use mathlib.Core.Path.{_≡_};
+ghost use Prim.Native.Nat.{_<_, _≤_};
+ghost use mathlib.Core.Bool.{not, _&&_, cond};
+ghost use lib.Dec.{eqb};
+ghost use lib.ListN.{getD, length};
+ghost use Rattle.model.specs.Folds.{ind, every, member};
+ghost use Rattle.model.specs.Jobs.{predecessors, before};
+ghost use Rattle.model.specs.States.{latest, finishOf, started};
+ghost use Rattle.model.specs.Edges.{candidate, possiblyReady, certainlyReady, earliestStart, workConservingBound, certainlyReadyBeside, higherPriorityBound};
+ghost use Rattle.jobs.specs.Rows.{Rows, jobsOf};
+ghost use Rattle.states.specs.Slots.{stateOf};
+ghost use Rattle.edges.specs.Edges.{Readable, Marked, Prepared, limitWord, firstCertainlyReady, edgeOf};
+use jobs::earliest_release;
+use jobs::goes_before;
+use jobs::is_predecessor;
+use jobs::latest_release;
+use jobs::predecessor;
+use jobs::predecessor_count;
+use states::SET_WORDS;
+use states::earliest_finish;
+use states::is_started;
+use states::larger;
+use states::latest_finish;
+use states::smaller;
+
+// The word for an infinite limit.
+const NO_LIMIT: u32 = 4294967295;
+
+pub enum Edge {
+    NotEligible,
+    // The earliest and the latest start.
+    Starts(u32, u32),
+}
+
+fn predecessors_started(rows: &[u32], k: usize, s: &[u32], m: usize, i: usize) -> bool
+    requires { ⌜ (i < k) × Readable (now rows) k (now s) m ⌝ }
+    ensures { λ r. ⌜ r ≡ every (started (stateOf m k (now (s .entry)))) (predecessors (jobsOf (now (rows .entry)) k) i) ⌝ }
+{
+    let n = predecessor_count(rows, k, i);
+    let mut j = 0;
+    while j < n {
+        if !is_started(s, m, k, predecessor(rows, k, i, j)) {
+            return false;
+        }
+        j += 1;
+    }
+    true
+}
+
+fn is_candidate(rows: &[u32], k: usize, s: &[u32], m: usize, i: usize) -> bool
+    requires { ⌜ (i < k) × Readable (now rows) k (now s) m ⌝ }
+    ensures { λ r. ⌜ r ≡ candidate (jobsOf (now (rows .entry)) k) (stateOf m k (now (s .entry))) i ⌝ }
+{
+    if is_started(s, m, k, i) {
+        return false;
+    }
+    predecessors_started(rows, k, s, m, i)
+}
+
+fn mark(b: bool) -> u32
+    ensures { λ r. ⌜ r ≡ ind b ⌝ }
+{
+    if b {
+        return 1;
+    }
+    0
+}
+
+// Marks the candidates with 1 and the other jobs with 0. This is done once for each state: all of its edges ask for candidates.
+pub fn mark_candidates(rows: &[u32], k: usize, s: &[u32], m: usize, marks: &mut [u32])
+    requires { ⌜ Readable (now rows) k (now s) m × (k ≤ length (now marks)) ⌝ }
+    ensures { λ _. ⌜ Marked (jobsOf (now (rows .entry)) k) (stateOf m k (now (s .entry))) k (now (marks .exit)) ⌝ }
+{
+    let mut j = 0;
+    while j < k {
+        marks[j] = mark(is_candidate(rows, k, s, m, j));
+        j += 1;
+    }
+}
+
+fn possibly_ready(rows: &[u32], k: usize, s: &[u32], m: usize, i: usize) -> u32
+    requires { ⌜ (i < k) × Readable (now rows) k (now s) m ⌝ }
+    ensures { λ r. ⌜ r ≡ possiblyReady (jobsOf (now (rows .entry)) k) (stateOf m k (now (s .entry))) i ⌝ }
+{
+    let n = predecessor_count(rows, k, i);
+    let mut ready = earliest_release(rows, k, i);
+    let mut j = 0;
+    while j < n {
+        ready = larger(ready, earliest_finish(s, m, k, predecessor(rows, k, i, j)));
+        j += 1;
+    }
+    ready
+}
+
+fn certainly_ready(rows: &[u32], k: usize, s: &[u32], m: usize, i: usize) -> u32
+    requires { ⌜ (i < k) × Readable (now rows) k (now s) m ⌝ }
+    ensures { λ r. ⌜ r ≡ certainlyReady (jobsOf (now (rows .entry)) k) (stateOf m k (now (s .entry))) i ⌝ }
+{
+    let n = predecessor_count(rows, k, i);
+    let mut ready = latest_release(rows, k, i);
+    let mut j = 0;
+    while j < n {
+        ready = larger(ready, latest_finish(s, m, k, predecessor(rows, k, i, j)));
+        j += 1;
+    }
+    ready
+}
+
+// The latest finish of job w, if it is no predecessor of job i; those have finished once i is ready.
+fn latest_finish_beside(rows: &[u32], k: usize, s: &[u32], m: usize, i: usize, w: usize) -> u32
+    requires { ⌜ (i < k) × (w < k) × Readable (now rows) k (now s) m ⌝ }
+    ensures { λ r. ⌜ r ≡ cond (not (member w (predecessors (jobsOf (now (rows .entry)) k) i)))
+        (latest (finishOf (stateOf m k (now (s .entry))) w)) 0 ⌝ }
+{
+    if is_predecessor(rows, k, i, w) {
+        return 0;
+    }
+    latest_finish(s, m, k, w)
+}
+
+fn certainly_ready_beside(rows: &[u32], k: usize, s: &[u32], m: usize, i: usize, j: usize) -> u32
+    requires { ⌜ (i < k) × (j < k) × Readable (now rows) k (now s) m ⌝ }
+    ensures { λ r. ⌜ r ≡ certainlyReadyBeside (jobsOf (now (rows .entry)) k) (stateOf m k (now (s .entry))) i j ⌝ }
+{
+    let n = predecessor_count(rows, k, j);
+    let mut ready = latest_release(rows, k, j);
+    let mut h = 0;
+    while h < n {
+        ready = larger(
+            ready,
+            latest_finish_beside(rows, k, s, m, i, predecessor(rows, k, j, h)),
+        );
+        h += 1;
+    }
+    ready
+}
+
+// From when on some candidate is certainly ready.
+fn first_certainly_ready(rows: &[u32], k: usize, s: &[u32], m: usize, marks: &[u32]) -> u32
+    requires { ⌜ Prepared (now rows) k (now s) m (now marks) ⌝ }
+    ensures { λ r. ⌜ r ≡ limitWord (firstCertainlyReady (jobsOf (now (rows .entry)) k) (stateOf m k (now (s .entry)))) ⌝ }
+{
+    let mut first = NO_LIMIT;
+    let mut j = 0;
+    while j < k {
+        if marks[j] == 1 {
+            first = smaller(first, certainly_ready(rows, k, s, m, j));
+        }
+        j += 1;
+    }
+    first
+}
+
+pub fn work_conserving_bound(rows: &[u32], k: usize, s: &[u32], m: usize, marks: &[u32]) -> u32
+    requires { ⌜ Prepared (now rows) k (now s) m (now marks) ⌝ }
+    ensures { λ r. ⌜ r ≡ workConservingBound (jobsOf (now (rows .entry)) k) (stateOf m k (now (s .entry))) ⌝ }
+{
+    let first = first_certainly_ready(rows, k, s, m, marks);
+    let free = s[SET_WORDS + m];
+    if first == NO_LIMIT {
+        return free;
+    }
+    larger(free, first)
+}
+
+// Whether job j is marked and goes before job i.
+fn is_higher_candidate(rows: &[u32], k: usize, marks: &[u32], i: usize, j: usize) -> bool
+    requires { ⌜ (i < k) × (j < k) × Rows (now rows) k × (k ≤ length (now marks)) ⌝ }
+    ensures { λ r. ⌜ r ≡ (eqb (getD (now (marks .entry)) j 0) 1 && before (jobsOf (now (rows .entry)) k) j i) ⌝ }
+{
+    if marks[j] != 1 {
+        return false;
+    }
+    goes_before(rows, k, j, i)
+}
+
+fn higher_priority_bound(
+    rows: &[u32],
+    k: usize,
+    s: &[u32],
+    m: usize,
+    marks: &[u32],
+    i: usize,
+) -> u32
+    requires { ⌜ (i < k) × Prepared (now rows) k (now s) m (now marks) ⌝ }
+    ensures { λ r. ⌜ r ≡ limitWord (higherPriorityBound (jobsOf (now (rows .entry)) k) (stateOf m k (now (s .entry))) i) ⌝ }
+{
+    let mut first = NO_LIMIT;
+    let mut j = 0;
+    while j < k {
+        if is_higher_candidate(rows, k, marks, i, j) {
+            first = smaller(first, certainly_ready_beside(rows, k, s, m, i, j));
+        }
+        j += 1;
+    }
+    first
+}
+
+fn earliest_start(rows: &[u32], k: usize, s: &[u32], m: usize, i: usize) -> u32
+    requires { ⌜ (i < k) × Readable (now rows) k (now s) m ⌝ }
+    ensures { λ r. ⌜ r ≡ earliestStart (jobsOf (now (rows .entry)) k) (stateOf m k (now (s .entry))) i ⌝ }
+{
+    larger(s[SET_WORDS], possibly_ready(rows, k, s, m, i))
+}
+
+// Whether job i may start next, and when. The work-conserving bound, which all edges of the state share, is given.
+pub fn edge_of(
+    rows: &[u32],
+    k: usize,
+    s: &[u32],
+    m: usize,
+    marks: &[u32],
+    bound: u32,
+    i: usize,
+) -> Edge
+    requires { ⌜ (i < k) × Prepared (now rows) k (now s) m (now marks) × (bound ≡ workConservingBound (jobsOf (now rows) k) (stateOf m k (now s))) ⌝ }
+    ensures { λ r. ⌜ r ≡ edgeOf (jobsOf (now (rows .entry)) k) (stateOf m k (now (s .entry))) i ⌝ }
+{
+    if marks[i] != 1 {
+        return Edge::NotEligible;
+    }
+    let start = earliest_start(rows, k, s, m, i);
+    if bound < start {
+        return Edge::NotEligible;
+    }
+    let higher = higher_priority_bound(rows, k, s, m, marks, i);
+    if higher <= start {
+        return Edge::NotEligible;
+    }
+    Edge::Starts(start, smaller(bound, higher - 1))
+}

@@ -1,0 +1,2 @@
+-- Laws of jobs in words.
+pub mod Jobs

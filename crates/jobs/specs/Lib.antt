@@ -1,0 +1,3 @@
+-- Jobs in words.
+pub mod Rows
+pub mod Fields

@@ -1,0 +1,129 @@
+// Jobs, read from their rows of words.
+ghost use mathlib.Core.Path.{_≡_};
+ghost use Prim.Native.Nat.{_<_, _≤_};
+ghost use lib.ListN.{getD, length};
+ghost use Rattle.model.specs.Folds.{member};
+ghost use Rattle.model.specs.Jobs.{job, predecessors, before};
+ghost use Rattle.jobs.specs.Rows.{rowWords, mostPredecessors, word, jobsOf, Rows};
+ghost use Rattle.jobs.specs.Fields.{fieldCount, fieldAt};
+
+// The row of a job.
+const ROW_WORDS: usize = 16;
+
+const EARLIEST_RELEASE: usize = 0;
+
+const LATEST_RELEASE: usize = 1;
+
+const LEAST_EXECUTION: usize = 2;
+
+const MOST_EXECUTION: usize = 3;
+
+const DEADLINE: usize = 4;
+
+const PRIORITY: usize = 5;
+
+const PREDECESSOR_COUNT: usize = 6;
+
+const PREDECESSORS: usize = 7;
+
+fn word_at(rows: &[u32], k: usize, i: usize, at: usize) -> u32
+    requires { ⌜ (i < k) × (at < rowWords) × Rows (now rows) k ⌝ }
+    ensures { λ r. ⌜ r ≡ word (now (rows .entry)) i at ⌝ }
+{
+    rows[i * ROW_WORDS + at]
+}
+
+fn field(rows: &[u32], k: usize, i: usize, at: usize) -> u32
+    requires { ⌜ (i < k) × (at < fieldCount) × Rows (now rows) k ⌝ }
+    ensures { λ r. ⌜ r ≡ fieldAt at (job (jobsOf (now (rows .entry)) k) i) ⌝ }
+{
+    word_at(rows, k, i, at)
+}
+
+pub fn earliest_release(rows: &[u32], k: usize, i: usize) -> u32
+    requires { ⌜ (i < k) × Rows (now rows) k ⌝ }
+    ensures { λ r. ⌜ r ≡ job (jobsOf (now (rows .entry)) k) i .earliestRelease ⌝ }
+{
+    field(rows, k, i, EARLIEST_RELEASE)
+}
+
+pub fn latest_release(rows: &[u32], k: usize, i: usize) -> u32
+    requires { ⌜ (i < k) × Rows (now rows) k ⌝ }
+    ensures { λ r. ⌜ r ≡ job (jobsOf (now (rows .entry)) k) i .latestRelease ⌝ }
+{
+    field(rows, k, i, LATEST_RELEASE)
+}
+
+pub fn least_execution(rows: &[u32], k: usize, i: usize) -> u32
+    requires { ⌜ (i < k) × Rows (now rows) k ⌝ }
+    ensures { λ r. ⌜ r ≡ job (jobsOf (now (rows .entry)) k) i .leastExecution ⌝ }
+{
+    field(rows, k, i, LEAST_EXECUTION)
+}
+
+pub fn most_execution(rows: &[u32], k: usize, i: usize) -> u32
+    requires { ⌜ (i < k) × Rows (now rows) k ⌝ }
+    ensures { λ r. ⌜ r ≡ job (jobsOf (now (rows .entry)) k) i .mostExecution ⌝ }
+{
+    field(rows, k, i, MOST_EXECUTION)
+}
+
+pub fn deadline(rows: &[u32], k: usize, i: usize) -> u32
+    requires { ⌜ (i < k) × Rows (now rows) k ⌝ }
+    ensures { λ r. ⌜ r ≡ job (jobsOf (now (rows .entry)) k) i .deadline ⌝ }
+{
+    field(rows, k, i, DEADLINE)
+}
+
+pub fn priority(rows: &[u32], k: usize, i: usize) -> u32
+    requires { ⌜ (i < k) × Rows (now rows) k ⌝ }
+    ensures { λ r. ⌜ r ≡ job (jobsOf (now (rows .entry)) k) i .priority ⌝ }
+{
+    field(rows, k, i, PRIORITY)
+}
+
+pub fn predecessor_count(rows: &[u32], k: usize, i: usize) -> usize
+    requires { ⌜ (i < k) × Rows (now rows) k ⌝ }
+    ensures { λ r. ⌜ (r ≡ length (predecessors (jobsOf (now (rows .entry)) k) i)) × (r ≤ mostPredecessors) ⌝ }
+{
+    word_at(rows, k, i, PREDECESSOR_COUNT) as usize
+}
+
+pub fn predecessor(rows: &[u32], k: usize, i: usize, j: usize) -> usize
+    requires { ⌜ (i < k) × (j < length (predecessors (jobsOf (now rows) k) i)) × Rows (now rows) k ⌝ }
+    ensures { λ r. ⌜ (r ≡ getD (predecessors (jobsOf (now (rows .entry)) k) i) j 0) × (r < i) ⌝ }
+{
+    word_at(rows, k, i, PREDECESSORS + j) as usize
+}
+
+// Whether job w is a predecessor of job i.
+pub fn is_predecessor(rows: &[u32], k: usize, i: usize, w: usize) -> bool
+    requires { ⌜ (i < k) × Rows (now rows) k ⌝ }
+    ensures { λ r. ⌜ r ≡ member w (predecessors (jobsOf (now (rows .entry)) k) i) ⌝ }
+{
+    let n = predecessor_count(rows, k, i);
+    let mut j = 0;
+    while j < n {
+        if w == predecessor(rows, k, i, j) {
+            return true;
+        }
+        j += 1;
+    }
+    false
+}
+
+// Whether job j goes before job i.
+pub fn goes_before(rows: &[u32], k: usize, j: usize, i: usize) -> bool
+    requires { ⌜ (j < k) × (i < k) × Rows (now rows) k ⌝ }
+    ensures { λ r. ⌜ r ≡ before (jobsOf (now (rows .entry)) k) j i ⌝ }
+{
+    let a = priority(rows, k, j);
+    let b = priority(rows, k, i);
+    if a < b {
+        return true;
+    }
+    if b < a {
+        return false;
+    }
+    j < i
+}

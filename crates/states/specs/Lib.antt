@@ -1,0 +1,2 @@
+-- States in words.
+pub mod Slots
