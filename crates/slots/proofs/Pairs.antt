@@ -1,0 +1,63 @@
+-- Two lists side by side, from an index on. Assumes nothing.
+use Prim.Native.Nat.{ℕ, zero, suc, _+_, _≤_, _<_}
+use mathlib.Core.Path.{_≡_, refl, sym, ap, _∙_}
+use mathlib.Core.Bool.{true, false}
+use mathlib.Core.List.{List, [], _∷_, _++_, zipWith, append-assoc, append-nil}
+use native.Mathlib.Nat.{le-of-suc-le-suc, not-suc-le-zero}
+use native.Mathlib.Numerals.{add-one}
+use native.Mathlib.Omega.{arith}
+use lib.Dec.{leb}
+use lib.ListN.{length, take, drop, getD, set, drop-of-length-le}
+use lib.Seq.{drop-cons, take-suc-set, drop-set-lt, take-all}
+use borrow.Author.Tests.{le-leb, lt-leb}
+use Rattle.model.specs.Folds.{everyTwo}
+use Rattle.words.specs.Tabulate.{tabulate}
+
+-- ---- every element is at most its counterpart
+
+module _ (x y : List ℕ) (i : ℕ) (n : length x ≡ length y) where
+  pub every-stop : i < length x → getD y i 0 < getD x i 0 → everyTwo leb (drop i x) (drop i y) ≡ false
+  unfolding everyTwo
+  every-stop h l =
+      let h₂ : i < length y = omega arith in
+      rw (drop-cons x i 0 h, drop-cons y i 0 h₂, lt-leb (getD x i 0) (getD y i 0) l)
+
+  pub every-on : i < length x → getD x i 0 ≤ getD y i 0 → everyTwo leb (drop i x) (drop i y) ≡ everyTwo leb (drop (i + 1) x) (drop (i + 1) y)
+  unfolding everyTwo
+  every-on h l =
+      let h₂ : i < length y = omega arith in
+      rw (add-one, drop-cons x i 0 h, drop-cons y i 0 h₂, le-leb (getD x i 0) (getD y i 0) l)
+
+  pub every-end : length x ≤ i → everyTwo leb (drop i x) (drop i y) ≡ true
+  unfolding everyTwo
+  every-end h =
+      let h₂ : length y ≤ i = omega arith in
+      rw (drop-of-length-le x {i = i} h, drop-of-length-le y {i = i} h₂)
+
+-- ---- two lists made one, element by element
+
+module _ (f : ℕ → ℕ → ℕ) (d s : List ℕ) where
+  pub zip-on : (i v : ℕ) → i < length d → length d ≡ length s → v ≡ f (getD d i 0) (getD s i 0)
+      → take i d ++ zipWith f (drop i d) (drop i s) ≡ take (i + 1) (set d i v) ++ zipWith f (drop (i + 1) (set d i v)) (drop (i + 1) s)
+  unfolding zipWith
+  zip-on i v h n e =
+      let h₂ : i < length s = omega arith in
+      let p : take (suc i) (set d i v) ≡ take i d ++ (v ∷ []) = take-suc-set d i v h in
+      let q : drop (suc i) (set d i v) ≡ drop (suc i) d = drop-set-lt (suc i) d i v (omega arith) in
+      rw (add-one, p, q, e, drop-cons d i 0 h, drop-cons s i 0 h₂) (sym (append-assoc (take i d) (f (getD d i 0) (getD s i 0) ∷ []) (zipWith f (drop (suc i) d) (drop (suc i) s))))
+
+  pub zip-end : (i : ℕ) → length d ≤ i → d ≡ take i d ++ zipWith f (drop i d) (drop i s)
+  unfolding zipWith
+  zip-end i h = sym (ap (λ (z : List ℕ). take i d ++ zipWith f z (drop i s)) (drop-of-length-le d {i = i} h) ∙ append-nil (take i d) ∙ take-all i d h)
+
+pub getD-zip : (f : ℕ → ℕ → ℕ) (d s : List ℕ) (i : ℕ) → i < length d → length d ≡ length s → getD (zipWith f d s) i 0 ≡ f (getD d i 0) (getD s i 0)
+unfolding zipWith
+getD-zip f [] s i h n = absurd (not-suc-le-zero h)
+getD-zip f (x ∷ xs) [] i h n = absurd (omega arith)
+getD-zip f (x ∷ xs) (y ∷ ys) zero h n = refl
+getD-zip f (x ∷ xs) (y ∷ ys) (suc i) h n = getD-zip f xs ys i (le-of-suc-le-suc h) (omega arith)
+
+pub zip-tabulate : {A : Type 0} (h : A → A → A) (f g : ℕ → A) (a n : ℕ) → zipWith h (tabulate f a n) (tabulate g a n) ≡ tabulate (λ i. h (f i) (g i)) a n
+unfolding zipWith tabulate
+zip-tabulate h f g a zero = refl
+zip-tabulate {A} h f g a (suc n) = ap (λ (l : List A). h (f a) (g a) ∷ l) (zip-tabulate h f g (suc a) n)

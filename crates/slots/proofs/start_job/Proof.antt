@@ -1,0 +1,93 @@
+-- `slots::start_job` meets its contract. Assumes nothing.
+use Prim.Native.Nat.{_+_, _-_, _≤_}
+use mathlib.Core.Path.{_≡_, _∙_}
+use native.Mathlib.Omega.{arith}
+use lib.ListN.{length}
+use denote.Ref.{now}
+use borrow.Rule.Slice.PartMut.{putMid}
+use Rattle.model.specs.Exploration.{stateWords}
+use Rattle.words.proofs.Parts.{part-length, length-put}
+use Rattle.states.specs.Slots.{possiblyAt, certainlyAt, stateOf}
+use Rattle.slots.proofs.Starts.{updated-set, started-state}
+use borrow.Author.Needs.{needs}
+use Rattle.slots.proofs.start_job.Statement.{statement}
+use Rattle.slots.proofs.start_job.Tie as tie
+
+add-certainly : tie.Need-add-certainly
+add-certainly c = search needs
+
+add-finish : tie.Need-add-finish
+add-finish c = search needs
+
+add-job-requires : tie.Need-add-job-requires
+add-job-requires c κs = search needs
+
+sub-update-availability : tie.Need-sub-update-availability
+sub-update-availability c = search needs
+
+part-update-availability-start : tie.Need-part-update-availability-start
+part-update-availability-start c = search needs
+
+part-update-availability-end : tie.Need-part-update-availability-end
+part-update-availability-end c = search needs
+
+update-availability-requires : tie.Need-update-availability-requires
+update-availability-requires c κs = search needs
+
+mul-update-availability : tie.Need-mul-update-availability
+mul-update-availability c = search needs
+
+sub-update-availability-2 : tie.Need-sub-update-availability-2
+sub-update-availability-2 c = search needs
+
+part-update-availability-start-2 : tie.Need-part-update-availability-start-2
+part-update-availability-start-2 c = search needs
+
+part-update-availability-end-2 : tie.Need-part-update-availability-end-2
+part-update-availability-end-2 c = search needs
+
+update-availability-requires-2 : tie.Need-update-availability-requires-2
+update-availability-requires-2 c κs = search needs
+
+same-length : tie.Need-same-length
+same-length c = search needs
+
+returns : tie.Need-returns
+returns c =
+    let a = c .before .before .before .before .before .before .before .before .before .before .before .before .before in
+    let m = a .args .m in
+    let k = a .args .k in
+    let w = c .before .before .before .before .before .before .before .before .before .before .add-job in
+    let x = c .before .before .before .before .before .before .update-availability in
+    let y = c .before .before .update-availability2 in
+    let ws = w .last .0 in
+    let ys = x .last .0 in
+    let zs = y .last .0 in
+    let p : 2 + m - 2 ≡ m = omega arith in
+    let q : 2 + m + m - (2 + m) ≡ m = omega arith in
+    let long : stateWords m k ≤ length ws = omega (arith, a .pre .3, w .kept .0) in
+    let lx : length ys ≡ m = rw p at (x .kept .0) ∙ part-length possiblyAt m ws (omega arith) in
+    let ly : length zs ≡ m = rw (p, q) at (y .kept .0) ∙ part-length (certainlyAt m) m (putMid possiblyAt m ws ys) (omega (arith, length-put possiblyAt m ws ys (omega arith) lx)) in
+    rw (p, q) (
+      started-state m k ws ys zs long lx ly (stateOf m k (now (a .args .out))) (a .args .i) (a .args .s) (a .args .e) (a .args .f) (w .ensures .0) (rw p at (x .ensures)) (rw (p, q) at (y .ensures)),
+      updated-set m k ws ys zs long lx ly ∙ w .ensures .1,
+    )
+
+pub start-job-spec : {M : Type 1} → statement M
+start-job-spec =
+    tie.close
+    (tie.spec
+    add-certainly
+    add-finish
+    add-job-requires
+    sub-update-availability
+    part-update-availability-start
+    part-update-availability-end
+    update-availability-requires
+    mul-update-availability
+    sub-update-availability-2
+    part-update-availability-start-2
+    part-update-availability-end-2
+    update-availability-requires-2
+    same-length
+    returns)

@@ -1,0 +1,2 @@
+-- What writing a state leaves.
+pub mod Writing

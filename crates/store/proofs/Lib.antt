@@ -1,0 +1,2 @@
+-- Laws of the states of a half.
+pub mod Storing

@@ -1,0 +1,110 @@
+-- `store::find_merging` meets its contract: no state before j merges with the new one. Assumes nothing.
+use Prim.Native.Nat.{_+_, _*_, _-_, _≤_}
+use mathlib.Core.Path.{_≡_, sym, _∙_}
+use native.Mathlib.Omega.{arith}
+use lib.ListN.{length}
+use denote.Ref.{now}
+use borrow.Author.Count.{below-more}
+use Rattle.model.specs.Exploration.{mergeable, stateWords}
+use Rattle.words.proofs.Parts.{part-length}
+use Rattle.states.specs.Slots.{stateOf, slotOf}
+use Rattle.store.specs.Half.{NoneMerges}
+use Rattle.store.proofs.Storing.{slot-fits}
+use borrow.Author.Needs.{needs}
+use Rattle.store.proofs.find_merging.Statement.{statement}
+use Rattle.store.proofs.find_merging.Tie as tie
+
+abbrev Inv-loop : tie.InvT-loop
+Inv-loop half n new m k w j₀ j = (j ≤ n) × NoneMerges m k half new j
+
+abbrev μ-loop : tie.MeasureT-loop
+μ-loop half n new m k w j₀ j = n - j
+
+within : (c : tie.In-loop Inv-loop μ-loop) → c .before .loop .j * c .before .before .state-words .result + c .before .before .state-words .result ≤ length (now (c .before .before .before .before .before .args .half))
+within c =
+    let a = c .before .before .before .before .before in
+    let t = c .before .loop in
+    rw (c .before .before .state-words .ensures) (omega (arith, slot-fits (t .j) (a .args .n) (stateWords (a .args .m) (a .args .k)) (omega arith), a .pre .2))
+
+tested : (c : tie.After-can-merge Inv-loop μ-loop) → c .can-merge .result ≡ mergeable (stateOf (c .before .before .before .before .before .before .before .args .m) (c .before .before .before .before .before .before .before .args .k) (slotOf (c .before .before .before .before .before .before .before .args .m) (c .before .before .before .before .before .before .before .args .k) (now (c .before .before .before .before .before .before .before .args .half)) (c .before .before .before .loop .j))) (stateOf (c .before .before .before .before .before .before .before .args .m) (c .before .before .before .before .before .before .before .args .k) (now (c .before .before .before .before .before .before .before .args .new)))
+tested c =
+    let t = c .before .before .before .loop in
+    let W = stateWords (c .before .before .before .before .before .before .before .args .m) (c .before .before .before .before .before .before .before .args .k) in
+    let p : t .j * W + W - t .j * W ≡ W = omega arith in
+    rw (c .before .before .before .before .state-words .ensures, p) at (c .can-merge .ensures)
+
+state-words-requires : tie.Need-state-words-requires Inv-loop μ-loop
+state-words-requires c κs = search needs
+
+loop-holds : tie.Need-loop-holds Inv-loop μ-loop
+loop-holds c = (omega arith, λ j b. absurd (omega arith))
+
+mul-at : tie.Need-mul-at Inv-loop μ-loop
+mul-at c = omega (arith, within c)
+
+add-end : tie.Need-add-end Inv-loop μ-loop
+add-end c = omega (arith, within c)
+
+mul-can-merge : tie.Need-mul-can-merge Inv-loop μ-loop
+mul-can-merge c = omega (arith, within c)
+
+sub-can-merge : tie.Need-sub-can-merge Inv-loop μ-loop
+sub-can-merge c = search needs
+
+part-can-merge-start : tie.Need-part-can-merge-start Inv-loop μ-loop
+part-can-merge-start c = search needs
+
+part-can-merge-end : tie.Need-part-can-merge-end Inv-loop μ-loop
+part-can-merge-end c = omega (arith, within c)
+
+can-merge-requires : tie.Need-can-merge-requires Inv-loop μ-loop
+can-merge-requires c κs =
+    let a = c .before .before .before .before .before .before in
+    let W = stateWords (a .args .m) (a .args .k) in
+    let j = c .before .before .loop .j in
+    let p : j * W + W - j * W ≡ W = omega arith in
+    let l = part-length (j * W) W (now (a .args .half)) (rw (c .before .before .before .state-words .ensures) at (within (c .before))) in
+    rw (c .before .before .before .state-words .ensures, p) (omega (arith, l), a .pre .3, a .pre .4 j (c .before .loop-test .taken), a .pre .5)
+
+returns : tie.Need-returns Inv-loop μ-loop
+returns c =
+    let t = c .before .before .before .before .loop in
+    record { inside = t .inv .0; none-before = t .inv .1; merges = λ h. sym (tested (c .before)) ∙ c .if1 .taken }
+
+add-j : tie.Need-add-j Inv-loop μ-loop
+add-j c = search needs
+
+loop-less : tie.Need-loop-less Inv-loop μ-loop
+loop-less c = search needs
+
+loop-again : tie.Need-loop-again Inv-loop μ-loop
+loop-again c =
+    let t = c .before .before .before .before .loop in
+    (omega arith, below-more _ _ (t .inv .1) (sym (tested (c .before)) ∙ c .if1 .left))
+
+returns-2 : tie.Need-returns-2 Inv-loop μ-loop
+returns-2 c =
+    let t = c .before .loop in
+    let e : t .j ≡ c .before .before .before .before .before .args .n = omega arith in
+    record { inside = omega arith; none-before = rw e at (t .inv .1); merges = λ h. absurd (omega arith) }
+
+pub find-merging-spec : {M : Type 1} → statement M
+find-merging-spec =
+    tie.close
+    (tie.spec
+    Inv-loop
+    μ-loop
+    state-words-requires
+    loop-holds
+    mul-at
+    add-end
+    mul-can-merge
+    sub-can-merge
+    part-can-merge-start
+    part-can-merge-end
+    can-merge-requires
+    returns
+    add-j
+    loop-less
+    loop-again
+    returns-2)

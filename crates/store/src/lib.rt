@@ -1,0 +1,97 @@
+// A level of states, stored in a half of the table.
+ghost use mathlib.Core.Path.{_≡_};
+ghost use mathlib.Core.List.{List};
+ghost use Prim.Native.Nat.{ℕ, _+_, _*_, _^_, _≤_, _<_};
+ghost use lib.ListN.{length, take};
+ghost use Rattle.model.specs.Jobs.{Job};
+ghost use Rattle.model.specs.Limits.{mostCores, mostJobs};
+ghost use Rattle.model.specs.States.{Range};
+ghost use Rattle.model.specs.Exploration.{merge, stored, limited, stateWords};
+ghost use Rattle.states.specs.Slots.{setOf, stateOf, slotOf, statesOf, Sound, AllSound};
+ghost use Rattle.store.specs.Half.{levelOf, SoundAt, SetsFit, FirstMerging, OthersKept};
+use slots::can_merge;
+use slots::merge_into;
+use states::state_words;
+use words::copy;
+
+pub enum Stored {
+    // The half now holds so many states.
+    At(usize),
+    // It has no room for the new state.
+    Full,
+}
+
+// The first of n stored states that can merge with the new one, or n.
+fn find_merging(half: &[u32], n: usize, new: &[u32], m: usize, k: usize) -> usize
+    requires { ⌜ (m ≤ mostCores) × (k ≤ mostJobs) × (n * stateWords m k ≤ length (now half)) × (stateWords m k ≤ length (now new))
+        × SetsFit m k (now half) n × (setOf (now new) < 2 ^ k) ⌝ }
+    ensures { λ r. ⌜ FirstMerging m k (now (half .entry)) n (now (new .entry)) r ⌝ }
+{
+    let w = state_words(m, k);
+    let mut j = 0;
+    while j < n {
+        let at = j * w;
+        let end = at + w;
+        if can_merge(&half[at..end], new, m, k) {
+            return j;
+        }
+        j += 1;
+    }
+    n
+}
+
+// Merges the new state into stored state j.
+fn merge_at(half: &mut [u32], j: usize, new: &[u32], m: usize, k: usize)
+    requires { ⌜ (m ≤ mostCores) × (k ≤ mostJobs) × (j * stateWords m k + stateWords m k ≤ length (now half)) × (stateWords m k ≤ length (now new))
+        × (setOf (slotOf m k (now half) j) ≡ setOf (now new)) ⌝ }
+    ensures { λ _. ⌜ (stateOf m k (slotOf m k (now (half .exit)) j)
+        ≡ merge (stateOf m k (slotOf m k (now (half .entry)) j)) (stateOf m k (now (new .entry))))
+        × (setOf (slotOf m k (now (half .exit)) j) ≡ setOf (now (new .entry))) ⌝ }
+    ensures { λ _. ⌜ OthersKept m k j (now (half .entry)) (now (half .exit)) ⌝ }
+{
+    let w = state_words(m, k);
+    let at = j * w;
+    let end = at + w;
+    merge_into(&mut half[at..end], new, m, k);
+}
+
+// Stores the new state in slot j.
+fn put_at(half: &mut [u32], j: usize, new: &[u32], m: usize, k: usize)
+    requires { ⌜ (m ≤ mostCores) × (k ≤ mostJobs) × (j * stateWords m k + stateWords m k ≤ length (now half))
+        × (stateWords m k ≤ length (now new)) ⌝ }
+    ensures { λ _. ⌜ slotOf m k (now (half .exit)) j ≡ take (stateWords m k) (now (new .entry)) ⌝ }
+    ensures { λ _. ⌜ OthersKept m k j (now (half .entry)) (now (half .exit)) ⌝ }
+{
+    let w = state_words(m, k);
+    let at = j * w;
+    let end = at + w;
+    copy(&mut half[at..end], &new[0..w]);
+}
+
+// Merges the new state with the first of n stored ones with which it can, or stores it last, where the half has room for cap states.
+pub fn store_state(
+    half: &mut [u32],
+    n: usize,
+    cap: usize,
+    new: &[u32],
+    m: usize,
+    k: usize,
+) -> Stored
+    requires { ⌜ (m ≤ mostCores) × (k ≤ mostJobs) × (cap * stateWords m k ≤ length (now half)) × (n ≤ cap) × (stateWords m k ≤ length (now new))
+        × SetsFit m k (now half) n × (setOf (now new) < 2 ^ k) ⌝ }
+    ensures { λ r. ⌜ ((seen : List Range) (c : ℕ) → levelOf m k (stateOf m k (now (new .entry))) seen c r (now (half .exit))
+        ≡ limited cap (stateOf m k (now (new .entry))) (stored (stateOf m k (now (new .entry))) (statesOf m k (now (half .entry)) n)) seen c) ⌝ }
+    ensures { λ r. ⌜ ((js : List Job) → AllSound js m k (now (half .entry)) n → Sound js m k (now (new .entry))
+        → SoundAt js m k cap r (now (half .exit))) ⌝ }
+{
+    let j = find_merging(half, n, new, m, k);
+    if j < n {
+        merge_at(half, j, new, m, k);
+        return Stored::At(n);
+    }
+    if n < cap {
+        put_at(half, n, new, m, k);
+        return Stored::At(n + 1);
+    }
+    Stored::Full
+}
