@@ -1,0 +1,94 @@
+-- `follow` meets its contract: the range is widened first; then the deadline is tested, and the successor stored. Assumes nothing.
+use Prim.Native.Nat.{_≤_, _<_}
+use mathlib.Core.Path.{ap, _∙_}
+use mathlib.Core.List.{List}
+use native.Mathlib.Omega.{arith}
+use denote.Ref.{now}
+use Rattle.model.specs.Limits.{latestTime}
+use Rattle.model.specs.Jobs.{job}
+use Rattle.model.specs.States.{Range}
+use Rattle.model.specs.Exploration.{limited, stored}
+use Rattle.jobs.specs.Rows.{jobsOf}
+use Rattle.states.specs.Slots.{stateOf, statesOf}
+use Rattle.slots.specs.Writing.{withStart}
+use Rattle.analysis.specs.Observed.{observedOf}
+use Rattle.analysis.proofs.Following.{inside, most-positive, fresh, takes-time, new-bounded, edge-late, edge-kept}
+use borrow.Author.Needs.{needs}
+use Rattle.analysis.proofs.explore.follow.Statement.{statement}
+use Rattle.analysis.proofs.explore.follow.Tie as tie
+
+observe-requires : tie.Need-observe-requires
+observe-requires c κs =
+    let p = c .before .before .before .before .before .pre in
+    let a = c .before .before .before .before .before .args in
+    (p .0, p .1 .setting .jobs, takes-time (jobsOf (now (a .rows)) (a .k)) (stateOf (a .m) (a .k) (now (a .cur))) (a .i) (a .s) (a .e) (a .f) (p .2) (most-positive (now (a .rows)) (a .k) (a .m) (p .1 .setting) (a .i) (p .0)), p .1 .observed)
+
+deadline-requires : tie.Need-deadline-requires
+deadline-requires c κs = search needs
+
+same-length : tie.Need-same-length
+same-length c = search needs
+
+returns : tie.Need-returns
+returns c =
+    let a = c .before .before .before .before .before .before .before .before .before .before .args in
+    let p = c .before .before .before .before .before .before .before .before .before .before .pre in
+    let js = jobsOf (now (a .rows)) (a .k) in
+    let σ = stateOf (a .m) (a .k) (now (a .cur)) in
+    let late : job js (a .i) .deadline < a .f = omega (arith, c .if1 .taken, c .before .deadline .ensures) in
+    record {
+      same = λ n. edge-late js σ (a .i) (a .s) (a .e) (a .f) (p .2) (a .cap) (statesOf (a .m) (a .k) (now (a .half)) (a .n)) (observedOf (a .k) (now (a .seen))) n late;
+      sound = tt;
+      observed = c .before .before .before .before .observe .ensures .1;
+    }
+
+store-successor-requires : tie.Need-store-successor-requires
+store-successor-requires c κs =
+    let a = c .before .before .before .before .before .before .before .before .before .before .before .args in
+    let p = c .before .before .before .before .before .before .before .before .before .before .before .pre in
+    let js = jobsOf (now (a .rows)) (a .k) in
+    let σ = stateOf (a .m) (a .k) (now (a .cur)) in
+    let given = p .1 in
+    let half = given .half-of in (
+      (p .0, given .setting .jobs, given .setting .cores, given .setting .few-cores, given .words, given .sound .set-fits, fresh js σ (a .i) (a .s) (a .e) (a .f) (p .2)),
+      (omega (arith, half .long), half .room, λ j l. half .sound j l .set-fits),
+    )
+
+same-length-2 : tie.Need-same-length-2
+same-length-2 c = search needs
+
+same-length-3 : tie.Need-same-length-3
+same-length-3 c = search needs
+
+returns-2 : tie.Need-returns-2
+returns-2 c =
+    let a = c .before .before .before .before .before .before .before .before .before .before .before .before .before .before .args in
+    let p = c .before .before .before .before .before .before .before .before .before .before .before .before .before .before .pre in
+    let js = jobsOf (now (a .rows)) (a .k) in
+    let σ = stateOf (a .m) (a .k) (now (a .cur)) in
+    let l = statesOf (a .m) (a .k) (now (a .half)) (a .n) in
+    let given = p .1 in
+    let x = c .before .before .store-successor .ensures in
+    let o = c .before .before .before .before .before .before .before .before .observe .ensures in
+    let timely : a .f ≤ job js (a .i) .deadline = omega (arith, c .before .before .before .before .if1 .left, c .before .before .before .before .before .deadline .ensures) in
+    let τ = withStart σ (a .i) (a .s) (a .e) (a .f) in
+    record {
+      same = λ n. x .0 (observedOf (a .k) (c .before .before .before .before .before .before .before .before .observe .last .0)) n
+          ∙ ap (λ (seen : List Range). limited (a .cap) τ (stored τ l) seen n) (o .0)
+          ∙ edge-kept js σ (a .i) (a .s) (a .e) (a .f) (p .2) (a .cap) l (observedOf (a .k) (now (a .seen))) n timely;
+      sound = x .1 js (given .half-of) (new-bounded js σ (a .i) (a .s) (a .e) (a .f) (p .2) latestTime (given .setting .timed) (given .sound .bounded) (inside (now (a .rows)) (a .k) (a .m) (given .setting) (a .i) (p .0)) timely);
+      observed = o .1;
+    }
+
+pub follow-spec : {M : Type 1} → statement M
+follow-spec =
+    tie.close
+    (tie.spec
+    observe-requires
+    deadline-requires
+    same-length
+    returns
+    store-successor-requires
+    same-length-2
+    same-length-3
+    returns-2)

@@ -1,0 +1,212 @@
+-- `build_level` meets its contract: before each state, those that are left make the level from what is built. Assumes nothing.
+use Prim.Native.Nat.{ℕ, _+_, _*_, _-_, _≤_}
+use mathlib.Core.Path.{ap}
+use native.Mathlib.Omega.{arith}
+use lib.ListN.{length}
+use denote.Ref.{now}
+use borrow.Author.Needs.{needs}
+use Rattle.words.proofs.Parts.{part-length}
+use Rattle.analysis.proofs.Building.{Building, building-starts, building-ends, read-inside, target-half, loaded-sound, building-goes-on, building-full, building-late}
+use Rattle.analysis.proofs.levels.build_level.Statement.{statement}
+use Rattle.analysis.proofs.levels.build_level.Tie as tie
+
+abbrev Inv-loop : tie.InvT-loop
+Inv-loop table₀ seen₀ from to n cap rows k m w end built₀ j₀ table seen built j = Building rows k m cap from to n table₀ seen₀ table seen built j
+
+abbrev μ-loop : tie.MeasureT-loop
+μ-loop table₀ seen₀ from to n cap rows k m w end built₀ j₀ table seen built j = n - j
+
+state-words-requires : tie.Need-state-words-requires Inv-loop μ-loop
+state-words-requires c κs = search needs
+
+-- the half that is written lies in the table
+target : (c : tie.After-state-words Inv-loop μ-loop) → c .before .before .before .before .args .to + c .before .before .before .before .args .cap * c .state-words .result ≤ length (now (c .before .before .before .before .args .table))
+target c = omega (arith, ap (λ (z : ℕ). c .before .before .before .before .args .cap * z) (c .state-words .ensures), c .before .before .before .before .pre .1 .target)
+
+mul-end : tie.Need-mul-end Inv-loop μ-loop
+mul-end c = omega (arith, target c)
+
+add-end : tie.Need-add-end Inv-loop μ-loop
+add-end c = omega (arith, target c)
+
+loop-holds : tie.Need-loop-holds Inv-loop μ-loop
+loop-holds c =
+    let a = c .before .before .before .before in
+    building-starts (a .pre .1) (a .pre .2) (a .pre .3)
+
+-- the state that is read lies in the table
+read : (c : tie.In-loop Inv-loop μ-loop) → c .before .before .before .before .before .before .args .from + c .before .loop .j * c .before .before .state-words .result + c .before .before .state-words .result ≤ length (c .before .loop .table)
+read c =
+    let i = c .before .loop in
+    let s = c .before .before .state-words in
+    read-inside (i .inv) (s .ensures) (c .loop-test .taken)
+
+mul-at : tie.Need-mul-at Inv-loop μ-loop
+mul-at c = omega (arith, read c, c .before .loop .inv .long)
+
+add-at : tie.Need-add-at Inv-loop μ-loop
+add-at c = omega (arith, read c, c .before .loop .inv .long)
+
+add-next : tie.Need-add-next Inv-loop μ-loop
+add-next c = omega (arith, read c, c .before .loop .inv .long)
+
+slice-aggregate-load-state : tie.Need-slice-aggregate-load-state Inv-loop μ-loop
+slice-aggregate-load-state c = search needs
+
+mul-load-state : tie.Need-mul-load-state Inv-loop μ-loop
+mul-load-state c = omega (arith, read (c .before), c .before .before .loop .inv .long)
+
+sub-load-state : tie.Need-sub-load-state Inv-loop μ-loop
+sub-load-state c = search needs
+
+part-load-state-start : tie.Need-part-load-state-start Inv-loop μ-loop
+part-load-state-start c = search needs
+
+part-load-state-end : tie.Need-part-load-state-end Inv-loop μ-loop
+part-load-state-end c = omega (arith, read (c .before .before))
+
+load-state-requires : tie.Need-load-state-requires Inv-loop μ-loop
+load-state-requires c κs =
+    let a = c .before .before .before .before .before .before .before .before .before in
+    let s = c .before .before .before .before .before .state-words in
+    let at = a .args .from + c .before .before .before .before .loop .j * s .result in
+    let l = part-length at (at + s .result - at) (c .before .before .before .before .loop .table) (omega (arith, read (c .before .before .before))) in
+    (a .pre .0 .few-cores, a .pre .0 .jobs, omega (arith, a .pre .0 .few-cores, a .pre .0 .jobs), omega (arith, l, s .ensures))
+
+mul-try-state : tie.Need-mul-try-state Inv-loop μ-loop
+mul-try-state c = search needs
+
+sub-try-state : tie.Need-sub-try-state Inv-loop μ-loop
+sub-try-state c = search needs
+
+part-try-state-start : tie.Need-part-try-state-start Inv-loop μ-loop
+part-try-state-start c = search needs
+
+part-try-state-end : tie.Need-part-try-state-end Inv-loop μ-loop
+part-try-state-end c = omega (arith, target (c .before .before .before .before .before .before .before), c .before .before .before .before .before .before .loop .inv .long)
+
+slice-aggregate-try-state : tie.Need-slice-aggregate-try-state Inv-loop μ-loop
+slice-aggregate-try-state c = search needs
+
+try-state-requires : tie.Need-try-state-requires Inv-loop μ-loop
+try-state-requires c κs =
+    let a = c .before .before .before .before .before .before .before .before .before .before .before .before .before .before in
+    let i = c .before .before .before .before .before .before .before .before .before .loop in
+    let s = c .before .before .before .before .before .before .before .before .before .before .state-words in
+    let t = c .before .before .before .before .before .before .before .before .loop-test .taken in
+    let l = c .before .before .before .before .load-state in (
+      a .pre .0,
+      omega (arith, l .kept .0, a .pre .0 .jobs, a .pre .0 .few-cores),
+      loaded-sound (i .inv) (s .ensures) t (l .last .0) (l .ensures .0) (l .ensures .1),
+      target-half (i .inv) (s .ensures) t,
+      i .inv .observed,
+    )
+
+enum-known-x : tie.Need-enum-known-x Inv-loop μ-loop
+enum-known-x c = search needs
+
+enum-known-l : tie.Need-enum-known-l Inv-loop μ-loop
+enum-known-l c = search needs
+
+same-length : tie.Need-same-length Inv-loop μ-loop
+same-length c = search needs
+
+same-length-2 : tie.Need-same-length-2 Inv-loop μ-loop
+same-length-2 c = search needs
+
+returns : tie.Need-returns Inv-loop μ-loop
+returns c =
+    let i = c .before .before .before .before .before .before .before .before .before .before .before .before .before .before .before .before .before .loop in
+    let s = c .before .before .before .before .before .before .before .before .before .before .before .before .before .before .before .before .before .before .state-words in
+    let t = c .before .before .before .before .before .before .before .before .before .before .before .before .before .before .before .before .loop-test .taken in
+    let l = c .before .before .before .before .before .before .before .before .before .before .before .before .load-state in
+    let y = c .before .before .before .before .before .before .before .try-state in
+    let v = c .before .l .given .1 in
+    building-full (i .inv) (s .ensures) t (l .last .0) (l .ensures .0) (y .kept .0) (y .ensures) v
+
+enum-known-i : tie.Need-enum-known-i Inv-loop μ-loop
+enum-known-i c = search needs
+
+same-length-3 : tie.Need-same-length-3 Inv-loop μ-loop
+same-length-3 c = search needs
+
+same-length-4 : tie.Need-same-length-4 Inv-loop μ-loop
+same-length-4 c = search needs
+
+returns-2 : tie.Need-returns-2 Inv-loop μ-loop
+returns-2 c =
+    let i = c .before .before .before .before .before .before .before .before .before .before .before .before .before .before .before .before .before .loop in
+    let s = c .before .before .before .before .before .before .before .before .before .before .before .before .before .before .before .before .before .before .state-words in
+    let t = c .before .before .before .before .before .before .before .before .before .before .before .before .before .before .before .before .loop-test .taken in
+    let l = c .before .before .before .before .before .before .before .before .before .before .before .before .load-state in
+    let y = c .before .before .before .before .before .before .before .try-state in
+    let v = c .before .i .given .1 in
+    building-late (i .inv) (s .ensures) t (l .last .0) (l .ensures .0) (y .kept .0) (y .ensures) v
+
+add-j : tie.Need-add-j Inv-loop μ-loop
+add-j c = search needs
+
+loop-less : tie.Need-loop-less Inv-loop μ-loop
+loop-less c = search needs
+
+loop-again : tie.Need-loop-again Inv-loop μ-loop
+loop-again c =
+    let i = c .before .before .before .before .before .before .before .before .before .before .before .before .before .before .before .before .before .loop in
+    let s = c .before .before .before .before .before .before .before .before .before .before .before .before .before .before .before .before .before .before .state-words in
+    let t = c .before .before .before .before .before .before .before .before .before .before .before .before .before .before .before .before .loop-test .taken in
+    let l = c .before .before .before .before .before .before .before .before .before .before .before .before .load-state in
+    let y = c .before .before .before .before .before .before .before .try-state in
+    let v = c .before .x .given .1 in
+    building-goes-on (i .inv) (s .ensures) t (l .last .0) (l .ensures .0) (y .kept .0) (y .ensures) v
+
+same-length-5 : tie.Need-same-length-5 Inv-loop μ-loop
+same-length-5 c = search needs
+
+same-length-6 : tie.Need-same-length-6 Inv-loop μ-loop
+same-length-6 c = search needs
+
+returns-3 : tie.Need-returns-3 Inv-loop μ-loop
+returns-3 c =
+    let i = c .before .loop in
+    building-ends (i .inv) (c .loop-test .left)
+
+pub build-level-spec : {M : Type 1} → statement M
+build-level-spec =
+    tie.close
+    (tie.spec
+    Inv-loop
+    μ-loop
+    state-words-requires
+    mul-end
+    add-end
+    loop-holds
+    mul-at
+    add-at
+    add-next
+    slice-aggregate-load-state
+    mul-load-state
+    sub-load-state
+    part-load-state-start
+    part-load-state-end
+    load-state-requires
+    mul-try-state
+    sub-try-state
+    part-try-state-start
+    part-try-state-end
+    slice-aggregate-try-state
+    try-state-requires
+    enum-known-x
+    enum-known-l
+    same-length
+    same-length-2
+    returns
+    enum-known-i
+    same-length-3
+    same-length-4
+    returns-2
+    add-j
+    loop-less
+    loop-again
+    same-length-5
+    same-length-6
+    returns-3)

@@ -1,0 +1,129 @@
+-- `climb_levels` meets its contract: before each level, what is stored is the definition's level before it. Assumes nothing.
+use Prim.Native.Nat.{ℕ, _*_, _-_}
+use mathlib.Core.Path.{ap}
+use native.Mathlib.Omega.{arith}
+use borrow.Author.Needs.{needs}
+use Rattle.analysis.proofs.Climbing.{Climbing, climbing-starts, climbing-ends, halves-apart, count-fits, climbing-goes-on, climbing-full, climbing-late}
+use Rattle.analysis.proofs.levels.climb_levels.Statement.{statement}
+use Rattle.analysis.proofs.levels.climb_levels.Tie as tie
+
+abbrev Inv-loop : tie.InvT-loop
+Inv-loop table₀ seen₀ cap rows k m w from₀ to₀ n₀ count₀ level₀ table seen from to n count level = Climbing rows k m cap table₀ table seen from to n count level
+
+abbrev μ-loop : tie.MeasureT-loop
+μ-loop table₀ seen₀ cap rows k m w from₀ to₀ n₀ count₀ level₀ table seen from to n count level = k - level
+
+state-words-requires : tie.Need-state-words-requires Inv-loop μ-loop
+state-words-requires c κs = search needs
+
+mul-to : tie.Need-mul-to Inv-loop μ-loop
+mul-to c = omega (arith, ap (λ (z : ℕ). c .before .before .before .before .args .cap * z) (c .state-words .ensures), c .before .before .before .before .pre .0 .1)
+
+loop-holds : tie.Need-loop-holds Inv-loop μ-loop
+loop-holds c =
+    let a = c .before .before .before .before in
+    climbing-starts (a .pre .0 .1) (c .state-words .ensures) (a .pre .0 .2) (a .pre .0 .3) (a .pre .1)
+
+build-level-requires : tie.Need-build-level-requires Inv-loop μ-loop
+build-level-requires c κs =
+    let a = c .before .before .before .before .before .before .before .before in
+    let i = c .before .before .before .loop in
+    (a .pre .0 .0, halves-apart (i .inv), i .inv .half, i .inv .observed)
+
+enum-known-x : tie.Need-enum-known-x Inv-loop μ-loop
+enum-known-x c = search needs
+
+add-count : tie.Need-add-count Inv-loop μ-loop
+add-count c =
+    let a = c .before .before .before .before .before .before .before .before .before .before .before .before .before .before .before .before in
+    let i = c .before .before .before .before .before .before .before .before .before .before .before .loop in
+    let y = c .before .before .before .before .before .before .before .build-level in
+    let v = c .before .x .given .1 in
+    omega (
+      arith,
+      count-fits (i .inv) (c .before .before .before .before .before .before .before .before .before .before .loop-test .taken) (y .kept .0) (y .ensures .0) (y .ensures .1) v,
+      a .good,
+    )
+
+enum-known-l : tie.Need-enum-known-l Inv-loop μ-loop
+enum-known-l c = search needs
+
+same-length : tie.Need-same-length Inv-loop μ-loop
+same-length c = search needs
+
+same-length-2 : tie.Need-same-length-2 Inv-loop μ-loop
+same-length-2 c = search needs
+
+returns : tie.Need-returns Inv-loop μ-loop
+returns c =
+    let i = c .before .before .before .before .before .before .before .before .before .before .before .loop in
+    let y = c .before .before .before .before .before .before .before .build-level in
+    let v = c .before .l .given .1 in
+    climbing-full (i .inv) (c .before .before .before .before .before .before .before .before .before .before .loop-test .taken) (y .kept .0) (y .ensures .0) (y .ensures .1) v
+
+enum-known-i : tie.Need-enum-known-i Inv-loop μ-loop
+enum-known-i c = search needs
+
+same-length-3 : tie.Need-same-length-3 Inv-loop μ-loop
+same-length-3 c = search needs
+
+same-length-4 : tie.Need-same-length-4 Inv-loop μ-loop
+same-length-4 c = search needs
+
+returns-2 : tie.Need-returns-2 Inv-loop μ-loop
+returns-2 c =
+    let i = c .before .before .before .before .before .before .before .before .before .before .before .loop in
+    let y = c .before .before .before .before .before .before .before .build-level in
+    let v = c .before .i .given .1 in
+    climbing-late (i .inv) (c .before .before .before .before .before .before .before .before .before .before .loop-test .taken) (y .kept .0) (y .ensures .0) (y .ensures .1) v
+
+add-level : tie.Need-add-level Inv-loop μ-loop
+add-level c = search needs
+
+loop-less : tie.Need-loop-less Inv-loop μ-loop
+loop-less c = search needs
+
+loop-again : tie.Need-loop-again Inv-loop μ-loop
+loop-again c =
+    let i = c .before .before .before .before .before .before .before .before .before .before .before .loop in
+    let y = c .before .before .before .before .before .before .before .build-level in
+    let v = c .before .x .given .1 in
+    climbing-goes-on (i .inv) (c .before .before .before .before .before .before .before .before .before .before .loop-test .taken) (y .kept .0) (y .ensures .0) (y .ensures .1) v
+
+same-length-5 : tie.Need-same-length-5 Inv-loop μ-loop
+same-length-5 c = search needs
+
+same-length-6 : tie.Need-same-length-6 Inv-loop μ-loop
+same-length-6 c = search needs
+
+returns-3 : tie.Need-returns-3 Inv-loop μ-loop
+returns-3 c =
+    let i = c .before .loop in
+    climbing-ends (i .inv) (c .loop-test .left)
+
+pub climb-levels-spec : {M : Type 1} → statement M
+climb-levels-spec =
+    tie.close
+    (tie.spec
+    Inv-loop
+    μ-loop
+    state-words-requires
+    mul-to
+    loop-holds
+    build-level-requires
+    enum-known-x
+    add-count
+    enum-known-l
+    same-length
+    same-length-2
+    returns
+    enum-known-i
+    same-length-3
+    same-length-4
+    returns-2
+    add-level
+    loop-less
+    loop-again
+    same-length-5
+    same-length-6
+    returns-3)

@@ -1,0 +1,34 @@
+-- The observed finish ranges in words: the earliest of every job, then the latest; a latest of 0 where nothing was observed, since an execution takes
+-- time. Assumes nothing.
+use Prim.Native.Nat.{ℕ, _+_, _*_, _≤_, _<_}
+use mathlib.Core.Path.{_≡_}
+use mathlib.Core.Bool.{cond}
+use mathlib.Core.List.{List}
+use lib.Dec.{eqb}
+use lib.ListN.{getD, length}
+use Rattle.model.specs.Limits.{mostJobs}
+use Rattle.model.specs.States.{Range, empty, range}
+use Rattle.words.specs.Tabulate.{tabulate}
+use Rattle.analysis.specs.declared.observed.FinishRange.{FinishRange}
+
+abbrev pub observedWords : ℕ
+observedWords = 2 * mostJobs
+
+abbrev pub rangeIn : ℕ → ℕ → Range
+rangeIn e f = cond (eqb f 0) empty (range e f)
+
+abbrev pub rangeOf : FinishRange → Range
+rangeOf r = rangeIn (r .earliest) (r .latest)
+
+abbrev pub observedAt : List ℕ → ℕ → Range
+observedAt ws i = rangeIn (getD ws i 0) (getD ws (mostJobs + i) 0)
+
+-- the ranges of k jobs
+unfoldable pub observedOf : ℕ → List ℕ → List Range
+unfolding tabulate
+observedOf k ws = tabulate (observedAt ws) 0 k
+
+-- the words are there, and are 0 from job k on
+pub record Observed (k : ℕ) (ws : List ℕ) : Type 0 where
+  pub long : length ws ≡ observedWords
+  pub beyond : (i : ℕ) → k ≤ i → i < mostJobs → (getD ws i 0 ≡ 0) × (getD ws (mostJobs + i) 0 ≡ 0)

@@ -1,0 +1,19 @@
+-- The two halves of the table, and the answer that an outcome gives with the words of the observed ranges. Assumes nothing.
+use Prim.Native.Nat.{ℕ, _+_, _≤_}
+use mathlib.Core.Logic.{_⊎_}
+use mathlib.Core.List.{List}
+use Rattle.model.specs.Exploration.{Answer, accepted, refused, late}
+use Rattle.analysis.specs.Observed.{observedOf}
+use Rattle.analysis.specs.declared.levels.Outcome.{Outcome}
+use Rattle.analysis.specs.declared.levels.Outcome.the-variants.{Accepted, Full, Late}
+
+-- a half of so many words that is read, and one that is written: both lie in the table, apart from each other
+pub record Halves (words size from to : ℕ) : Type 0 where
+  pub source : from + size ≤ words
+  pub target : to + size ≤ words
+  pub apart : (from + size ≤ to) ⊎ (to + size ≤ from)
+
+abbrev pub answerIn : ℕ → Outcome → List ℕ → Answer
+answerIn k (Accepted c) seen = accepted (observedOf k seen) c
+answerIn k (Full l) seen = refused 13 l
+answerIn k (Late i e f) seen = late i e f

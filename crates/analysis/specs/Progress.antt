@@ -1,0 +1,53 @@
+-- How far the analysis has come, by what a step answers and by the words of the half and of the observed ranges. Assumes nothing.
+use Prim.Native.Nat.{ℕ, _*_, _≤_}
+use mathlib.Core.Path.{_≡_}
+use mathlib.Core.Bool.{true}
+use mathlib.Core.List.{List}
+use lib.ListN.{length}
+use Rattle.model.specs.Jobs.{Job}
+use Rattle.model.specs.States.{Range, State}
+use Rattle.model.specs.Edges.{eligible, earliestStart, earliestFinish, latestFinish}
+use Rattle.model.specs.Exploration.{Exploration, going, full, miss, stateWords}
+use Rattle.jobs.specs.Rows.{jobsOf, Setting}
+use Rattle.states.specs.Slots.{statesOf, Sound, AllSound}
+use Rattle.analysis.specs.Observed.{observedOf, Observed}
+use Rattle.analysis.specs.declared.Step.{Step}
+use Rattle.analysis.specs.declared.Step.the-variants.{Going, Full, Late}
+
+-- the exploration, with these observed ranges and c states counted before
+abbrev pub progressOf : ℕ → ℕ → List Range → ℕ → Step → List ℕ → Exploration
+progressOf m k seen c (Going n) half = going (statesOf m k half n) seen c
+progressOf m k seen c (Full l) half = full l
+progressOf m k seen c (Late i e f) half = miss i e f
+
+-- a half of the table with room for cap states that holds n of them
+pub record Half (js : List Job) (m k cap : ℕ) (half : List ℕ) (n : ℕ) : Type 0 where
+  pub long : length half ≡ cap * stateWords m k
+  pub room : n ≤ cap
+  pub sound : AllSound js m k half n
+
+abbrev pub HalfAt : List Job → ℕ → ℕ → ℕ → Step → List ℕ → Type 0
+HalfAt js m k cap (Going n) half = Half js m k cap half n
+HalfAt js m k cap (Full l) half = Unit {0}
+HalfAt js m k cap (Late i e f) half = Unit {0}
+
+-- what a step leaves: the words say what the definition's next exploration says, and can be gone on from
+pub record Leaves (js : List Job) (m k cap : ℕ) (next : ℕ → Exploration) (r : Step) (half seen : List ℕ) : Type 0 where
+  pub same : (c : ℕ) → progressOf m k (observedOf k seen) c r half ≡ next c
+  pub sound : HalfAt js m k cap r half
+  pub observed : Observed k seen
+
+-- what is given where the edges of a state are explored: the jobs, the state, the half of the next level, and the observed ranges
+pub record Explores (rows : List ℕ) (k m cap : ℕ) (cur half : List ℕ) (n : ℕ) (seen : List ℕ) : Type 0 where
+  pub setting : Setting rows k m
+  pub words : stateWords m k ≤ length cur
+  pub sound : Sound (jobsOf rows k) m k cur
+  pub half-of : Half (jobsOf rows k) m k cap half n
+  pub observed : Observed k seen
+
+-- job i is eligible, and starts and finishes at these moments
+pub record Follows (js : List Job) (σ : State) (i s e f : ℕ) : Type 0 where
+  pub starts : eligible js σ i ≡ true
+  pub start : s ≡ earliestStart js σ i
+  pub earliest : e ≡ earliestFinish js σ i
+  pub latest : f ≡ latestFinish js σ i

@@ -1,0 +1,84 @@
+// The state that an edge makes.
+ghost use mathlib.Core.Path.{_≡_};
+ghost use mathlib.Core.Bool.{false};
+ghost use mathlib.Core.List.{List};
+ghost use Prim.Native.Nat.{ℕ, _+_, _*_, _^_, _≤_, _<_};
+ghost use lib.ListN.{length};
+ghost use Rattle.model.specs.Limits.{mostCores, mostJobs, latestTime};
+ghost use Rattle.model.specs.Jobs.{Job};
+ghost use Rattle.model.specs.States.{Range, started};
+ghost use Rattle.model.specs.Exploration.{stateWords, limited, stored};
+ghost use Rattle.model.proofs.Bounds.{Bounded};
+ghost use Rattle.states.specs.Slots.{setOf, stateOf, statesOf};
+ghost use Rattle.slots.specs.Writing.{withStart};
+ghost use Rattle.store.specs.Half.{SetsFit};
+ghost use Rattle.analysis.specs.Progress.{progressOf, Half, HalfAt};
+use crate::Step;
+use slots::start_job;
+use states::level_of;
+use states::state_words;
+use store::Stored;
+use store::store_state;
+use words::copy;
+
+// The words of the largest state: 8 cores, 64 jobs.
+pub const MOST_STATE_WORDS: usize = 2 + 2 * 8 + 2 * 64;
+
+// Copies the state that begins `src` to the front of `cur`.
+pub fn load_state(cur: &mut [u32], src: &[u32], m: usize, k: usize)
+    requires { ⌜ (m ≤ mostCores) × (k ≤ mostJobs) × (stateWords m k ≤ length (now cur)) × (stateWords m k ≤ length (now src)) ⌝ }
+    ensures { λ _. ⌜ (stateOf m k (now (cur .exit)) ≡ stateOf m k (now (src .entry))) × (setOf (now (cur .exit)) ≡ setOf (now (src .entry))) ⌝ }
+{
+    let w = state_words(m, k);
+    copy(&mut cur[0..w], &src[0..w]);
+}
+
+// Writes the state that follows `cur` once job i starts at s at the earliest, to finish from e to f.
+pub fn write_successor(
+    new: &mut [u32],
+    cur: &[u32],
+    m: usize,
+    k: usize,
+    i: usize,
+    s: u32,
+    e: u32,
+    f: u32,
+)
+    requires { ⌜ (i < k) × (k ≤ mostJobs) × (1 ≤ m) × (m ≤ mostCores) × (stateWords m k ≤ length (now cur)) × (stateWords m k ≤ length (now new))
+        × (setOf (now cur) < 2 ^ k) × (started (stateOf m k (now cur)) i ≡ false) ⌝ }
+    ensures { λ _. ⌜ (stateOf m k (now (new .exit)) ≡ withStart (stateOf m k (now (cur .entry))) i s e f)
+        × (setOf (now (new .exit)) ≡ setOf (now (cur .entry)) + 2 ^ i) ⌝ }
+{
+    load_state(new, cur, m, k);
+    start_job(new, m, k, i, s, e, f);
+}
+
+// Stores the state that follows `cur` in the half, which holds n states and has room for cap.
+pub fn store_successor(
+    half: &mut [u32],
+    n: usize,
+    cap: usize,
+    cur: &[u32],
+    m: usize,
+    k: usize,
+    i: usize,
+    s: u32,
+    e: u32,
+    f: u32,
+) -> Step
+    requires { ⌜ (i < k) × (k ≤ mostJobs) × (1 ≤ m) × (m ≤ mostCores) × (stateWords m k ≤ length (now cur)) × (setOf (now cur) < 2 ^ k)
+        × (started (stateOf m k (now cur)) i ≡ false) ⌝ }
+    requires { ⌜ (cap * stateWords m k ≤ length (now half)) × (n ≤ cap) × SetsFit m k (now half) n ⌝ }
+    ensures { λ r. ⌜ ((seen : List Range) (c : ℕ) → progressOf m k seen c r (now (half .exit))
+        ≡ limited cap (withStart (stateOf m k (now (cur .entry))) i s e f)
+        (stored (withStart (stateOf m k (now (cur .entry))) i s e f) (statesOf m k (now (half .entry)) n)) seen c) ⌝ }
+    ensures { λ r. ⌜ ((js : List Job) → Half js m k cap (now (half .entry)) n
+        → Bounded js latestTime (withStart (stateOf m k (now (cur .entry))) i s e f) → HalfAt js m k cap r (now (half .exit))) ⌝ }
+{
+    let mut new = [0u32; MOST_STATE_WORDS];
+    write_successor(&mut new, cur, m, k, i, s, e, f);
+    match store_state(half, n, cap, &new, m, k) {
+        Stored::At(stored) => Step::Going(stored),
+        Stored::Full => Step::Full(level_of(&new, m, k)),
+    }
+}
