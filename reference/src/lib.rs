@@ -1,0 +1,12 @@
+//! The second checker of carillon phrases, written from document 01 alone.
+
+pub mod check;
+pub mod dispatch;
+pub mod draft;
+#[cfg(feature = "linked")]
+pub mod foreign;
+pub mod random;
+pub mod range;
+pub mod reading;
+pub mod report;
+pub mod walk;

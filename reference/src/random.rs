@@ -1,0 +1,85 @@
+//! Random phrase files from a seed: valid ones of many shapes, and damaged ones.
+
+mod damaged;
+mod generator;
+mod valid;
+
+pub use damaged::damaged;
+pub use generator::Generator;
+pub use valid::{Shape, TINY, accepted_words, draft, tuned, valid};
+
+use crate::check::HOST_WORDS;
+use crate::dispatch::Scenario;
+use crate::reading::{self, Phrase};
+use crate::walk;
+
+/// A phrase file and the length of a table to lend for it.
+#[derive(Clone, Debug)]
+pub struct Case {
+    pub file: Vec<u8>,
+    pub table_words: usize,
+}
+
+/// The case of this number in the stream of this seed; no other case is needed to make it.
+pub fn case(seed: u64, number: u64) -> Case {
+    let mut random = Generator::of_case(seed, number);
+    let file = if random.chance(3, 5) {
+        valid(&mut random)
+    } else {
+        damaged(&mut random)
+    };
+    let table_words = table_words(&mut random, &file);
+    Case { file, table_words }
+}
+
+/// Lengths that say something: none, the host's, any, and those around a whole number of states.
+fn table_words(random: &mut Generator, file: &[u8]) -> usize {
+    let Ok(phrase) = reading::read(file) else {
+        return random.below(600) as usize;
+    };
+    let pair = 2 * walk::words_per_state(&phrase);
+    let around = |random: &mut Generator, states: u64| {
+        // One word less than so many states, exactly so many, or some words more.
+        (pair * states + random.below(3)).saturating_sub(1) as usize
+    };
+    match random.below(10) {
+        0 => 0,
+        1 => random.below(pair * 3) as usize,
+        2 => {
+            let states = random.range(1, 4);
+            around(random, states)
+        }
+        3 => random.below(HOST_WORDS as u64) as usize,
+        4 | 5 => HOST_WORDS,
+        6 => HOST_WORDS * 2,
+        // Around the length at which 13 gives way to another answer.
+        _ => {
+            let peak = walk::walk(&phrase, 2 * HOST_WORDS).peak;
+            around(random, peak)
+        }
+    }
+}
+
+/// A scenario in the phrase's ranges; often at their limits, where bounds are reached.
+pub fn scenario(random: &mut Generator, phrase: &Phrase) -> Scenario {
+    let at_limits = random.below(101);
+    let mut value = |low: u64, high: u64| {
+        if random.chance(at_limits, 100) {
+            if random.chance(1, 2) { low } else { high }
+        } else {
+            random.range(low, high)
+        }
+    };
+    Scenario {
+        calls: phrase
+            .strokes
+            .iter()
+            .map(|s| value(s.call.low, s.call.high))
+            .collect(),
+        holds: phrase
+            .strokes
+            .iter()
+            .map(|s| value(s.hold.low, s.hold.high))
+            .collect(),
+    }
+}

@@ -1,0 +1,209 @@
+//! Reads a phrase file: its bytes give a phrase or the first refusal, 1 to 12, with its place.
+
+use crate::range::Range;
+
+pub const MOST_DRIVERS: u64 = 8;
+pub const MOST_BELLS: u64 = 96;
+pub const MOST_STROKES: usize = 64;
+pub const LATEST_TIME: u64 = 3_600_000;
+pub const LONGEST_HOLD: u64 = 5_000;
+pub const LOWEST_KEY: i64 = 12;
+pub const HIGHEST_KEY: i64 = 119;
+pub const WIDEST_TRANSPOSITION: i64 = 24;
+
+/// Version and count; what the count counts begins here.
+const HEAD: usize = 5;
+const BELL_BYTES: usize = 7;
+/// Key, ra, rb and d; the waited-for numbers follow.
+const NOTE_FIELDS: usize = 13;
+const MOST_WAITS: usize = 4;
+
+#[derive(Clone, Copy, Debug, PartialEq, Eq)]
+pub struct Refusal {
+    pub number: u64,
+    pub place: u64,
+}
+
+#[derive(Clone, Debug, PartialEq, Eq)]
+pub struct Bell {
+    /// The sounding key: written key plus transposition.
+    pub key: i64,
+    /// ca..cb
+    pub hold: Range,
+    /// p
+    pub rank: u64,
+}
+
+#[derive(Clone, Debug, PartialEq, Eq)]
+pub struct Stroke {
+    pub key: i64,
+    pub bell: usize,
+    /// ra..rb
+    pub call: Range,
+    /// ca..cb
+    pub hold: Range,
+    /// d
+    pub due: u64,
+    /// p
+    pub rank: u64,
+    /// The wait set, rising: the listed strokes and the nearest earlier one of the same bell.
+    pub waits: Vec<usize>,
+}
+
+#[derive(Clone, Debug, PartialEq, Eq)]
+pub struct Phrase {
+    /// m
+    pub drivers: usize,
+    pub bells: Vec<Bell>,
+    /// K of them, in file order.
+    pub strokes: Vec<Stroke>,
+}
+
+impl Phrase {
+    /// Whether stroke `j` goes before stroke `i`: smaller rank, then smaller number.
+    pub fn goes_before(&self, j: usize, i: usize) -> bool {
+        (self.strokes[j].rank, j) < (self.strokes[i].rank, i)
+    }
+}
+
+fn refusal(number: u64, place: usize) -> Refusal {
+    Refusal {
+        number,
+        place: place as u64,
+    }
+}
+
+fn require(met: bool, number: u64, place: usize) -> Result<(), Refusal> {
+    if met {
+        Ok(())
+    } else {
+        Err(refusal(number, place))
+    }
+}
+
+fn big_endian(bytes: &[u8]) -> u64 {
+    bytes
+        .iter()
+        .fold(0, |value, &byte| value << 8 | u64::from(byte))
+}
+
+/// The `length` bytes from `first` on, or 3 at `first` when they pass the end.
+fn bytes_at(file: &[u8], first: usize, length: usize) -> Result<&[u8], Refusal> {
+    file.get(first..first + length).ok_or(refusal(3, first))
+}
+
+pub fn read(file: &[u8]) -> Result<Phrase, Refusal> {
+    require(file.is_empty() || file[0] == 1, 1, 0)?;
+    require(file.len() >= HEAD, 2, 0)?;
+    require(
+        big_endian(&file[1..HEAD]) == (file.len() - HEAD) as u64,
+        2,
+        0,
+    )?;
+
+    let mut at = HEAD;
+    let drivers = big_endian(bytes_at(file, at, 1)?);
+    require((1..=MOST_DRIVERS).contains(&drivers), 4, at)?;
+    at += 1;
+
+    let bell_count = big_endian(bytes_at(file, at, 1)?);
+    require((1..=MOST_BELLS).contains(&bell_count), 5, at)?;
+    at += 1;
+
+    let mut bells: Vec<Bell> = Vec::new();
+    for _ in 0..bell_count {
+        let bell = read_bell(file, at)?;
+        require(bells.iter().all(|b| b.key != bell.key), 7, at)?;
+        bells.push(bell);
+        at += BELL_BYTES;
+    }
+
+    let stroke_count = big_endian(bytes_at(file, at, 1)?);
+    require(stroke_count <= MOST_STROKES as u64, 8, at)?;
+    at += 1;
+
+    let mut strokes = Vec::new();
+    for _ in 0..stroke_count {
+        let (stroke, length) = read_note(file, at, &bells, &strokes)?;
+        strokes.push(stroke);
+        at += length;
+    }
+    require(at == file.len(), 3, at)?;
+
+    Ok(Phrase {
+        drivers: drivers as usize,
+        bells,
+        strokes,
+    })
+}
+
+fn read_bell(file: &[u8], first: usize) -> Result<Bell, Refusal> {
+    let record = bytes_at(file, first, BELL_BYTES)?;
+    let written = i64::from(record[0]);
+    let transposition = i64::from(record[1] as i8);
+    let key = written + transposition;
+    let hold = Range::new(big_endian(&record[2..4]), big_endian(&record[4..6]));
+    let keys = LOWEST_KEY..=HIGHEST_KEY;
+    let in_range = keys.contains(&written)
+        && (-WIDEST_TRANSPOSITION..=WIDEST_TRANSPOSITION).contains(&transposition)
+        && 1 <= hold.low
+        && hold.low <= hold.high
+        && hold.high <= LONGEST_HOLD
+        && keys.contains(&key);
+    require(in_range, 6, first)?;
+    Ok(Bell {
+        key,
+        hold,
+        rank: u64::from(record[6]),
+    })
+}
+
+/// The stroke of the note whose length byte stands at `first`, and the record's whole length.
+fn read_note(
+    file: &[u8],
+    first: usize,
+    bells: &[Bell],
+    earlier: &[Stroke],
+) -> Result<(Stroke, usize), Refusal> {
+    let length = big_endian(bytes_at(file, first, 1)?) as usize;
+    require(
+        (NOTE_FIELDS..=NOTE_FIELDS + MOST_WAITS).contains(&length),
+        9,
+        first,
+    )?;
+    let record = &bytes_at(file, first, 1 + length)?[1..];
+
+    let key = i64::from(record[0]);
+    let Some(bell) = bells.iter().position(|b| b.key == key) else {
+        return Err(refusal(10, first));
+    };
+
+    let call = Range::new(big_endian(&record[1..5]), big_endian(&record[5..9]));
+    let due = big_endian(&record[9..NOTE_FIELDS]);
+    let times_right = call.low <= call.high && call.high <= LATEST_TIME && due <= LATEST_TIME;
+    require(times_right, 11, first)?;
+
+    let listed: Vec<usize> = record[NOTE_FIELDS..]
+        .iter()
+        .map(|&number| usize::from(number))
+        .collect();
+    let rising = listed.windows(2).all(|pair| pair[0] < pair[1]);
+    let below_own = listed.iter().all(|&number| number < earlier.len());
+    require(rising && below_own, 12, first)?;
+
+    let mut waits = listed;
+    waits.extend(earlier.iter().rposition(|s| s.bell == bell));
+    waits.sort_unstable();
+    waits.dedup();
+
+    let stroke = Stroke {
+        key,
+        bell,
+        call,
+        hold: bells[bell].hold,
+        due,
+        rank: bells[bell].rank,
+        waits,
+    };
+    Ok((stroke, 1 + length))
+}

@@ -1,0 +1,25 @@
+//! Counts the kinds of answers: 0 for accepted, else the refusal's number.
+
+use reference::check::Check;
+
+#[derive(Default)]
+pub struct Tally {
+    pub counts: [u64; 16],
+}
+
+impl Tally {
+    pub fn add(&mut self, check: &Check) {
+        self.counts[(check.host_number() >> 32) as usize] += 1;
+    }
+
+    pub fn print(&self, title: &str) {
+        let all: u64 = self.counts.iter().sum();
+        println!("{title}: {all}");
+        for (kind, &count) in self.counts.iter().enumerate() {
+            if count > 0 {
+                let share = count as f64 * 100.0 / all as f64;
+                println!("  {kind:2} {count:8} {share:6.2} %");
+            }
+        }
+    }
+}

@@ -1,0 +1,243 @@
+//! The product's library against this checker: numbers, places, texts and all that stays untouched.
+//!
+//! COMPARE_COUNT phrases (20,000) of COMPARE_SEED (1), from number COMPARE_FIRST (0) on.
+
+mod common;
+#[path = "common/tally.rs"]
+mod tally;
+
+use std::env;
+use std::process::ExitCode;
+
+use common::*;
+use reference::check::{Check, HOST_WORDS};
+use reference::foreign;
+use reference::random::{Generator, case};
+use reference::reading::read;
+use reference::report::check_and_text;
+use reference::walk::{capacity, words_per_state};
+use tally::Tally;
+
+/// Lent bytes and words are followed by so many that were not lent.
+const BEYOND: usize = 64;
+
+/// What the library is lent, with known contents and more of them beyond its end.
+struct Lent<T> {
+    before: Vec<T>,
+    after: Vec<T>,
+    length: usize,
+}
+
+impl<T: Copy + PartialEq> Lent<T> {
+    fn new(length: usize, mut content: impl FnMut() -> T) -> Lent<T> {
+        let before: Vec<T> = (0..length + BEYOND).map(|_| content()).collect();
+        Lent {
+            after: before.clone(),
+            before,
+            length,
+        }
+    }
+
+    fn slice(&mut self) -> &mut [T] {
+        &mut self.after[..self.length]
+    }
+
+    /// Whether everything from `first` on, beyond the lent part too, is as it was.
+    fn untouched_from(&self, first: usize) -> bool {
+        self.before[first..] == self.after[first..]
+    }
+}
+
+struct Trial<'a> {
+    file: &'a [u8],
+    table_words: usize,
+    random: Generator,
+}
+
+impl Trial<'_> {
+    /// Makes all four calls; says which one differs, and how.
+    fn run(&mut self, kinds: &mut Tally, reports: &mut [u64; 2]) -> Result<(), String> {
+        let (check, text) = check_and_text(self.file, HOST_WORDS);
+        named("phrase_check", || {
+            compare_number(&check, foreign::phrase_check(self.file))
+        })?;
+        named("phrase_report", || {
+            let mut lent = self.lend_text(&text);
+            let length = foreign::phrase_report(self.file, lent.slice());
+            compare_text(&text, &lent, length)
+        })?;
+
+        let (check, text) = check_and_text(self.file, self.table_words);
+        kinds.add(&check);
+        named("phrase_check_with", || {
+            let mut table = self.lend_table();
+            let number = foreign::phrase_check_with(self.file, table.slice());
+            compare_number(&check, number)?;
+            self.compare_table(&table)
+        })?;
+        named("phrase_report_with", || {
+            let mut table = self.lend_table();
+            let mut lent = self.lend_text(&text);
+            let length = foreign::phrase_report_with(self.file, table.slice(), lent.slice());
+            reports[usize::from(length == 0)] += 1;
+            compare_text(&text, &lent, length)?;
+            self.compare_table(&table)
+        })
+    }
+
+    fn lend_table(&mut self) -> Lent<u32> {
+        let random = &mut self.random;
+        Lent::new(self.table_words, || random.next_number() as u32)
+    }
+
+    /// A buffer around the text's exact length.
+    fn lend_text(&mut self, text: &str) -> Lent<u8> {
+        let exact = text.len();
+        let length = match self.random.below(8) {
+            0 => 0,
+            1 => self.random.below(exact as u64) as usize,
+            2 => exact - 1,
+            3 | 4 => exact,
+            5 => exact + 1,
+            6 => exact + self.random.below(200) as usize,
+            _ => 32_768,
+        };
+        let random = &mut self.random;
+        Lent::new(length, || random.next_number() as u8)
+    }
+
+    /// The first 2 x S x W words may hold anything; after a refusal of reading, none may change.
+    fn compare_table(&self, table: &Lent<u32>) -> Result<(), String> {
+        let used = read(self.file).map_or(0, |phrase| {
+            2 * capacity(&phrase, self.table_words) * words_per_state(&phrase)
+        });
+        if table.untouched_from(used as usize) {
+            Ok(())
+        } else {
+            Err(format!("a table word from {used} on was touched"))
+        }
+    }
+}
+
+fn named(call: &str, compare: impl FnOnce() -> Result<(), String>) -> Result<(), String> {
+    compare().map_err(|difference| format!("{call}: {difference}"))
+}
+
+fn compare_number(check: &Check, found: u64) -> Result<(), String> {
+    let expected = check.host_number();
+    if found == expected {
+        return Ok(());
+    }
+    Err(format!(
+        "expected {} at {}, found {} at {}",
+        expected >> 32,
+        expected as u32,
+        found >> 32,
+        found as u32
+    ))
+}
+
+/// The text, or none and 0 for 15; every byte past it untouched.
+fn compare_text(text: &str, lent: &Lent<u8>, length: usize) -> Result<(), String> {
+    let expected = if text.len() <= lent.length { text } else { "" };
+    if length != expected.len() {
+        return Err(format!(
+            "text of {} bytes in {}: expected length {}, found {length}",
+            text.len(),
+            lent.length,
+            expected.len()
+        ));
+    }
+    if lent.after[..length] != *expected.as_bytes() {
+        let found = String::from_utf8_lossy(&lent.after[..length]);
+        return Err(format!("expected\n{expected}found\n{found}"));
+    }
+    if !lent.untouched_from(length) {
+        return Err(format!("a byte past the text's {length} was touched"));
+    }
+    Ok(())
+}
+
+fn setting(name: &str, otherwise: u64) -> Result<u64, String> {
+    match env::var(name) {
+        Ok(value) => value.parse().map_err(|_| format!("{name} is no number")),
+        Err(_) => Ok(otherwise),
+    }
+}
+
+fn in_hexadecimal(file: &[u8]) -> String {
+    file.iter().map(|byte| format!("{byte:02X}")).collect()
+}
+
+fn compare_random_phrases() -> Result<(), String> {
+    let count = setting("COMPARE_COUNT", 20_000)?;
+    let seed = setting("COMPARE_SEED", 1)?;
+    let first = setting("COMPARE_FIRST", 0)?;
+    let mut kinds = Tally::default();
+    let mut reports = [0; 2];
+    for number in first..first + count {
+        let case = case(seed, number);
+        let mut trial = Trial {
+            file: &case.file,
+            table_words: case.table_words,
+            random: Generator::of_case(!seed, number),
+        };
+        trial.run(&mut kinds, &mut reports).map_err(|difference| {
+            format!(
+                "COMPARE_SEED={seed} COMPARE_FIRST={number}: {difference}\ntable {} words, file {}",
+                case.table_words,
+                in_hexadecimal(&case.file)
+            )
+        })?;
+    }
+    kinds.print("random phrases that agree, by their answer in tables of many lengths");
+    println!(
+        "reports written {}, refused with 15 {}",
+        reports[0], reports[1]
+    );
+    Ok(())
+}
+
+fn compare_examples() -> Result<(), String> {
+    let files = [
+        P.to_vec(),
+        p_with(35, 6),
+        vec![],
+        vec![9],
+        p_waiting_for_itself(),
+        m1(),
+        m5(),
+        m6(),
+        m7(),
+        m8(),
+    ];
+    for file in &files {
+        for table_words in [0, 7, 8, 31, 32, HOST_WORDS] {
+            for seed in 0..20 {
+                let mut trial = Trial {
+                    file,
+                    table_words,
+                    random: Generator::new(seed),
+                };
+                trial
+                    .run(&mut Tally::default(), &mut [0; 2])
+                    .map_err(|difference| {
+                        let file = in_hexadecimal(file);
+                        format!("{difference}\ntable {table_words} words, file {file}")
+                    })?;
+            }
+        }
+    }
+    println!("examples that agree: {}", files.len());
+    Ok(())
+}
+
+fn main() -> ExitCode {
+    match compare_examples().and_then(|()| compare_random_phrases()) {
+        Ok(()) => ExitCode::SUCCESS,
+        Err(difference) => {
+            println!("DIFFERENCE: {difference}");
+            ExitCode::FAILURE
+        }
+    }
+}

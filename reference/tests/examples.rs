@@ -1,0 +1,136 @@
+//! Every example of document 01.
+
+mod common;
+
+use common::*;
+use reference::check::{Answer, Check, HOST_WORDS, check};
+use reference::range::Range;
+use reference::report::report;
+
+const BUFFER: usize = 32_768;
+
+fn report_text(file: &[u8], table_words: usize) -> String {
+    let mut buffer = vec![0xAA; BUFFER];
+    let (answer, length) = report(file, table_words, &mut buffer);
+    assert_eq!(answer, check(file, table_words));
+    assert!(buffer[length..].iter().all(|&byte| byte == 0xAA));
+    String::from_utf8(buffer[..length].to_vec()).unwrap()
+}
+
+fn assert_refused(file: &[u8], table_words: usize, number: u64, place: u64, line: &str) {
+    let check = check(file, table_words);
+    assert_eq!(check, Check::bare(Answer::Refused { number, place }));
+    assert_eq!(check.host_number(), number << 32 | place);
+    assert_eq!(report_text(file, table_words), line);
+}
+
+fn assert_accepted(file: &[u8], table_words: usize, ends: &[(u64, u64)], states: u64) {
+    let check = check(file, table_words);
+    assert_eq!(check.answer, Answer::Accepted);
+    assert_eq!(check.host_number(), 0);
+    assert_eq!(check.strokes, ends.len());
+    assert_eq!(check.states, states);
+    for (stroke, found) in check.ends.iter().enumerate() {
+        let (low, high) = ends.get(stroke).copied().unwrap_or((0, 0));
+        assert_eq!(*found, Range::new(low, high), "stroke {stroke}");
+    }
+    let unused = &check.responses[ends.len()..];
+    assert!(unused.iter().all(|r| *r == Range::new(0, 0)));
+}
+
+#[test]
+fn p_is_reported_to_the_byte() {
+    assert_eq!(report_text(&P, HOST_WORDS), P_REPORT);
+    assert_eq!(check(&P, HOST_WORDS).host_number(), 0);
+}
+
+#[test]
+fn refusals_of_reading_have_their_places() {
+    let examples: [(Vec<u8>, u64, u64); 15] = [
+        (vec![0x09], 1, 0),
+        (vec![0x01, 0, 0], 2, 0),
+        (vec![], 2, 0),
+        (p_with(4, 0x2E), 2, 0),
+        (vec![0x01, 0, 0, 0, 1, 0x01], 3, 6),
+        (vec![0x01, 0, 0, 0, 1, 0x00], 4, 5),
+        (vec![0x01, 0, 0, 0, 2, 0x01, 0x00], 5, 6),
+        (p_with(7, 0x0B), 6, 7),
+        (p_with(15, 0xFE), 7, 14),
+        (p_with(21, 0x41), 8, 21),
+        (p_with(22, 0x0C), 9, 22),
+        (p_with(37, 0x3E), 10, 36),
+        (p_with(27, 0x06), 11, 22),
+        (p_waiting_for_itself(), 12, 36),
+        (p_with(21, 0x01), 3, 36),
+    ];
+    for (file, number, place) in examples {
+        let line = format!("refused {number} at {place}\n");
+        assert_refused(&file, HOST_WORDS, number, place, &line);
+        // Refusals of reading come before 13.
+        assert_refused(&file, 0, number, place, &line);
+    }
+}
+
+#[test]
+fn p_with_31_words_is_full_at_level_1() {
+    assert_refused(&P, 31, 13, 1, "refused 13 level 1\n");
+}
+
+#[test]
+fn p_with_stroke_0_due_6_is_late() {
+    let file = p_with(35, 0x06);
+    let late = Answer::Late {
+        stroke: 0,
+        ends: Range::new(6, 7),
+    };
+    assert_eq!(check(&file, HOST_WORDS), Check::bare(late));
+    assert_eq!(check(&file, HOST_WORDS).host_number(), 14 << 32);
+    assert_eq!(
+        report_text(&file, HOST_WORDS),
+        "refused 14 stroke 0 ends 6..7\n"
+    );
+}
+
+#[test]
+fn a_short_buffer_gives_15_whatever_the_answer() {
+    let too_short = Check::bare(Answer::Refused {
+        number: 15,
+        place: 0,
+    });
+    assert_eq!(too_short.host_number(), 15 << 32);
+    let late = p_with(35, 0x06);
+    for (file, words) in [(&P[..], 16_384), (&P[..], 31), (&late, 16_384), (&[], 0)] {
+        let length = report_text(file, words).len();
+        for buffer_length in [0, 10, length - 1] {
+            let mut buffer = vec![0xAA; buffer_length];
+            let answer = report(file, words, &mut buffer);
+            assert_eq!(answer, (too_short.clone(), 0));
+            assert!(buffer.iter().all(|&byte| byte == 0xAA));
+        }
+        let mut buffer = vec![0xAA; length];
+        let (_, written) = report(file, words, &mut buffer);
+        assert_eq!(written, length);
+    }
+}
+
+#[test]
+fn marked_phrases_have_their_ends_and_states() {
+    assert_accepted(&m1(), HOST_WORDS, &[(1, 2), (4, 5)], 3);
+    assert_accepted(&P, HOST_WORDS, &[(2, 7), (4, 6)], 4);
+    assert_accepted(&P, 32, &[(2, 7), (4, 6)], 4);
+    assert_accepted(&m5(), HOST_WORDS, &[(2, 2), (5, 5), (3, 5)], 4);
+    assert_accepted(&m6(), HOST_WORDS, &[(2, 4), (3, 5), (5, 6)], 5);
+    assert_accepted(&m7(), HOST_WORDS, &[(1, 1), (2, 2)], 3);
+    assert_accepted(&m8(), HOST_WORDS, &[], 1);
+}
+
+#[test]
+fn no_strokes_take_8_words() {
+    assert_accepted(&m8(), 8, &[], 1);
+    assert_eq!(
+        report_text(&m8(), 8),
+        "accepted strokes 0 states 1 hold 0\n"
+    );
+    assert_refused(&m8(), 7, 13, 0, "refused 13 level 0\n");
+    assert_refused(&m8(), 0, 13, 0, "refused 13 level 0\n");
+}

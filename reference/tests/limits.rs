@@ -1,0 +1,252 @@
+//! Every limit of reading, at it and just beyond it, and which refusal comes first.
+
+mod common;
+
+use common::*;
+use reference::draft::{Draft, DraftBell, DraftNote, correct_count};
+use reference::reading::{Refusal, read};
+
+/// Five bells and five notes, the third written key doubled; right in everything.
+fn sound() -> Draft {
+    let bells = [(40, 0), (60, -24), (60, 24), (12, 0), (119, 0)];
+    let bells = bells.map(|(written, transposition)| DraftBell {
+        written,
+        transposition,
+        ca: 1,
+        cb: 5000,
+        rank: 255,
+    });
+    let notes = [40, 36, 84, 12, 119].map(|key| DraftNote::new(key, 5, 5, 3_600_000, vec![]));
+    Draft::new(8, bells.to_vec(), notes.to_vec())
+}
+
+/// Where bell 2 and note 4 of it begin.
+const BELL_2: u64 = 7 + 14;
+const NOTE_4: u64 = 7 + 35 + 1 + 4 * 14;
+
+fn answer(change: impl FnOnce(&mut Draft)) -> Option<(u64, u64)> {
+    let mut draft = sound();
+    change(&mut draft);
+    refused(&draft.bytes())
+}
+
+fn refused(file: &[u8]) -> Option<(u64, u64)> {
+    read(file)
+        .err()
+        .map(|Refusal { number, place }| (number, place))
+}
+
+#[test]
+fn all_is_right_before_a_change() {
+    let phrase = read(&sound().bytes()).unwrap();
+    let bells: Vec<usize> = phrase.strokes.iter().map(|s| s.bell).collect();
+    assert_eq!(bells, [0, 1, 2, 3, 4]);
+}
+
+#[test]
+fn counts_have_their_limits() {
+    for (drivers, expected) in [(0, Some((4, 5))), (1, None), (8, None), (9, Some((4, 5)))] {
+        assert_eq!(answer(|d| d.drivers = drivers), expected);
+    }
+    assert_eq!(answer(|d| d.bell_count = 0), Some((5, 6)));
+    let many_bells = |count: usize| {
+        answer(|d| {
+            let bell = d.bells[0].clone();
+            d.bells = (12..)
+                .take(count)
+                .map(|key| DraftBell {
+                    written: key,
+                    ..bell.clone()
+                })
+                .collect();
+            d.bell_count = count as u8;
+            d.notes.iter_mut().for_each(|note| note.key = 12);
+        })
+    };
+    assert_eq!(many_bells(1), None);
+    assert_eq!(many_bells(96), None);
+    assert_eq!(many_bells(97), Some((5, 6)));
+    let many_notes = |count: usize| {
+        answer(|d| {
+            d.notes = vec![d.notes[0].clone(); count];
+            d.stroke_count = count as u8;
+        })
+    };
+    assert_eq!(many_notes(0), None);
+    assert_eq!(many_notes(64), None);
+    assert_eq!(many_notes(65), Some((8, 42)));
+}
+
+#[test]
+fn bell_fields_have_their_limits() {
+    let with = |written, transposition, ca, cb| {
+        answer(|d| {
+            d.bells[2] = DraftBell {
+                written,
+                transposition,
+                ca,
+                cb,
+                rank: 0,
+            };
+            // The bells at the limits would be in the way of the sounding keys tried here.
+            d.bells[3].written = 70;
+            d.bells[4].written = 71;
+            d.bell_count = 5;
+            d.stroke_count = 0;
+            d.notes.clear();
+        })
+    };
+    let six = Some((6, BELL_2));
+    for (written, transposition, expected) in [
+        (12, 0, None),
+        (11, 0, six),
+        (11, 1, six),
+        (119, 0, None),
+        (120, 0, six),
+        (120, -1, six),
+        (50, 24, None),
+        (50, 25, six),
+        (50, -24, None),
+        (50, -25, six),
+        (13, -1, None),
+        (12, -1, six),
+        (118, 1, None),
+        (119, 1, six),
+        (12, 127, six),
+        (119, -128, six),
+    ] {
+        assert_eq!(
+            with(written, transposition, 1, 1),
+            expected,
+            "{written} {transposition}"
+        );
+    }
+    for (ca, cb, expected) in [
+        (0, 5, six),
+        (0, 0, six),
+        (1, 1, None),
+        (5, 4, six),
+        (5000, 5000, None),
+        (5000, 5001, six),
+        (5001, 5001, six),
+        (256, 255, six),
+    ] {
+        assert_eq!(with(50, 0, ca, cb), expected, "{ca} {cb}");
+    }
+    // 40 sounds already: by itself 7, but 6 comes first.
+    assert_eq!(with(40, 0, 1, 1), Some((7, BELL_2)));
+    assert_eq!(with(50, -10, 1, 1), Some((7, BELL_2)));
+    assert_eq!(with(40, 0, 0, 1), six);
+}
+
+#[test]
+fn note_fields_have_their_limits() {
+    let with = |change: &dyn Fn(&mut DraftNote)| answer(|d| change(&mut d.notes[4]));
+    for length in [0, 12, 18, 255] {
+        assert_eq!(with(&|n| n.length = length), Some((9, NOTE_4)));
+    }
+    for length in 14..=17 {
+        assert_eq!(with(&|n| n.length = length), Some((3, NOTE_4)));
+    }
+    // 60 is only written, 0 and 255 are no keys at all.
+    for key in [0, 60, 118, 120, 255] {
+        assert_eq!(with(&|n| n.key = key), Some((10, NOTE_4)));
+    }
+    for (ra, rb, due, expected) in [
+        (0, 0, 0, None),
+        (3_600_000, 3_600_000, 0, None),
+        (3_600_000, 3_600_001, 0, Some((11, NOTE_4))),
+        (3_600_001, 3_600_001, 0, Some((11, NOTE_4))),
+        (1, 0, 9, Some((11, NOTE_4))),
+        (0, 0, 3_600_000, None),
+        (0, 0, 3_600_001, Some((11, NOTE_4))),
+        (u32::MAX, u32::MAX, u32::MAX, Some((11, NOTE_4))),
+    ] {
+        let times = |n: &mut DraftNote| (n.ra, n.rb, n.due) = (ra, rb, due);
+        assert_eq!(with(&times), expected, "{ra} {rb} {due}");
+    }
+    for (waits, expected) in [
+        (vec![0, 1, 2, 3], None),
+        (vec![3], None),
+        (vec![4], Some((12, NOTE_4))),
+        (vec![255], Some((12, NOTE_4))),
+        (vec![1, 1], Some((12, NOTE_4))),
+        (vec![2, 1], Some((12, NOTE_4))),
+        (vec![0, 1, 2, 4], Some((12, NOTE_4))),
+        (vec![0, 2, 1, 3], Some((12, NOTE_4))),
+        (vec![0, 1, 2, 3, 4], Some((9, NOTE_4))),
+    ] {
+        let listed = |n: &mut DraftNote| {
+            *n = DraftNote::new(n.key, n.ra, n.rb, n.due, waits.clone());
+        };
+        assert_eq!(with(&listed), expected, "{waits:?}");
+    }
+}
+
+#[test]
+fn the_first_rule_in_order_answers() {
+    assert_eq!(
+        answer(|d| (d.version, d.count_error) = (2, 1)),
+        Some((1, 0))
+    );
+    assert_eq!(
+        answer(|d| (d.count_error, d.drivers) = (1, 0)),
+        Some((2, 0))
+    );
+    assert_eq!(answer(|d| (d.drivers, d.bell_count) = (0, 0)), Some((4, 5)));
+    let note =
+        |key, ra, waits: Vec<u8>| answer(|d| d.notes[4] = DraftNote::new(key, ra, 5, 9, waits));
+    assert_eq!(note(118, 6, vec![4]), Some((10, NOTE_4)));
+    assert_eq!(note(119, 6, vec![4]), Some((11, NOTE_4)));
+    assert_eq!(note(119, 5, vec![4]), Some((12, NOTE_4)));
+
+    // A wrong length is 9 although the record also passes the end.
+    let mut cut = sound().bytes();
+    cut[NOTE_4 as usize] = 18;
+    cut.truncate(NOTE_4 as usize + 1);
+    correct_count(&mut cut, 0);
+    assert_eq!(refused(&cut), Some((9, NOTE_4)));
+    // A bell that passes the end is 3 although what is left of it is out of range.
+    cut[BELL_2 as usize] = 0;
+    cut.truncate(BELL_2 as usize + 6);
+    correct_count(&mut cut, 0);
+    assert_eq!(refused(&cut), Some((3, BELL_2)));
+    // A note that passes the end is 3 although its key finds no bell.
+    cut = sound().bytes();
+    cut[NOTE_4 as usize + 1] = 0;
+    cut.pop();
+    correct_count(&mut cut, 0);
+    assert_eq!(refused(&cut), Some((3, NOTE_4)));
+}
+
+#[test]
+fn p_cut_anywhere_is_refused_where_the_cut_field_or_record_begins() {
+    for length in 0..P.len() {
+        let mut file = P[..length].to_vec();
+        let number = if length < 5 { 2 } else { 3 };
+        let place = match length {
+            0..5 => 0,
+            5 => 5,
+            6 => 6,
+            7..14 => 7,
+            14..21 => 14,
+            21 => 21,
+            22..36 => 22,
+            _ => 36,
+        };
+        assert_eq!(refused(&file), Some((2, 0)), "the count is wrong");
+        correct_count(&mut file, 0);
+        assert_eq!(refused(&file), Some((number, place)), "{length} bytes");
+    }
+}
+
+#[test]
+fn bytes_that_remain_are_refused_where_they_begin() {
+    for more in 1..4 {
+        let mut file = P.to_vec();
+        file.resize(P.len() + more, 0);
+        assert_eq!(refused(&file), Some((2, 0)));
+        correct_count(&mut file, 0);
+        assert_eq!(refused(&file), Some((3, 50)));
+    }
+}

@@ -1,0 +1,211 @@
+//! Runs of the dispatch rule held against demand 3: all of small phrases, many of larger ones.
+//!
+//! SCENARIO_PHRASES small phrases (1,500) and SCENARIO_CASES cases of the stream (6,000).
+
+mod common;
+
+use common::*;
+use reference::check::{Answer, Check, HOST_WORDS, check_phrase};
+use reference::dispatch::{
+    Breach, Scenario, State, Status, all_scenarios, demand_3, play, scenario_count, states,
+};
+use reference::random::{self, Generator, Shape, TINY};
+use reference::range::Range;
+use reference::reading::{Phrase, read};
+
+fn accepted(file: &[u8]) -> Option<(Phrase, Check)> {
+    let phrase = read(file).ok()?;
+    let check = check_phrase(&phrase, HOST_WORDS);
+    check.is_accepted().then_some((phrase, check))
+}
+
+fn setting(name: &str, otherwise: u64) -> u64 {
+    std::env::var(name).map_or(otherwise, |value| value.parse().expect(name))
+}
+
+/// Holds a scenario against demand 3, and says all about it when it breaks it.
+fn assert_demand_3(phrase: &Phrase, check: &Check, scenario: &Scenario) {
+    let ends = &check.ends[..check.strokes];
+    if let Err(breach) = demand_3(phrase, ends, scenario) {
+        panic!("{breach:?}\n{phrase:#?}\n{ends:?}\n{scenario:?}");
+    }
+}
+
+#[test]
+fn marked_phrases_keep_demand_3_in_all_scenarios() {
+    for file in [P.to_vec(), m1(), m5(), m6(), m7(), m8()] {
+        let (phrase, check) = accepted(&file).unwrap();
+        for scenario in all_scenarios(&phrase) {
+            assert_demand_3(&phrase, &check, &scenario);
+        }
+    }
+}
+
+#[test]
+fn small_phrases_keep_demand_3_in_all_scenarios() {
+    let mut random = Generator::new(7);
+    let (mut phrases, mut scenarios, mut strokes, mut reached) = (0, 0, 0, 0);
+    let wanted = setting("SCENARIO_PHRASES", 1_500);
+    while phrases < wanted {
+        let draft = random::draft(&mut random, &TINY);
+        let draft = random::tuned(&mut random, draft);
+        let Some((phrase, check)) = accepted(&draft.bytes()) else {
+            continue;
+        };
+        if scenario_count(&phrase).is_none_or(|count| count > 3_000) {
+            continue;
+        }
+        phrases += 1;
+        let last = check.ends.iter().map(|ends| ends.high).max().unwrap();
+        let mut seen: Vec<Option<Range>> = vec![None; check.strokes];
+        for scenario in all_scenarios(&phrase) {
+            scenarios += 1;
+            assert_demand_3(&phrase, &check, &scenario);
+            for start in play(&phrase, &scenario, last).0 {
+                let end = Range::new(start.end, start.end);
+                let seen = &mut seen[start.stroke];
+                *seen = Some(seen.map_or(end, |ends| ends.widened(end)));
+            }
+        }
+        strokes += check.strokes;
+        reached += (0..check.strokes)
+            .filter(|&stroke| seen[stroke] == Some(check.ends[stroke]))
+            .count();
+    }
+    println!("{phrases} phrases, {scenarios} scenarios");
+    println!("both reported ends reached by {reached} of {strokes} strokes");
+    // A check that reports far wider ends than runs reach would keep demand 3 as well.
+    assert!(reached * 4 > strokes * 3);
+}
+
+#[test]
+fn larger_phrases_keep_demand_3_in_random_scenarios() {
+    let mut random = Generator::new(8);
+    let (mut phrases, mut strokes, mut scenarios) = (0, 0, 0);
+    for number in 0..setting("SCENARIO_CASES", 6_000) {
+        let Some((phrase, check)) = accepted(&random::case(8, number).file) else {
+            continue;
+        };
+        // Long runs are walked millisecond by millisecond too: a few are enough.
+        let last = check.ends.iter().map(|ends| ends.high).max().unwrap();
+        let times = if last < 2_000 {
+            20
+        } else {
+            u64::from(number % 100 == 0)
+        };
+        for _ in 0..times {
+            assert_demand_3(&phrase, &check, &random::scenario(&mut random, &phrase));
+        }
+        phrases += u64::from(times > 0);
+        strokes += check.strokes as u64 * u64::from(times > 0);
+        scenarios += times;
+    }
+    println!("{phrases} phrases with {strokes} strokes, {scenarios} scenarios");
+    assert!(phrases > 0);
+}
+
+#[test]
+fn with_nothing_uncertain_the_walk_is_the_one_run() {
+    let shape = Shape {
+        strokes: (0, 40),
+        drivers: (1, 8),
+        bells: (1, 20),
+        ranks: 6,
+        hold: (1, 12),
+        hold_spread: 0,
+        gap: (0, 6),
+        call_spread: 0,
+        waiting: 30,
+    };
+    let mut random = Generator::new(9);
+    let mut late = 0;
+    for _ in 0..2_000 {
+        let draft = random::draft(&mut random, &shape);
+        let phrase = read(&random::tuned(&mut random, draft).bytes()).unwrap();
+        let scenario = all_scenarios(&phrase).next().unwrap();
+        let (starts, state) = play(&phrase, &scenario, 3_000);
+        assert!(state.strokes.iter().all(|&status| status == Status::Done));
+        let check = check_phrase(&phrase, HOST_WORDS);
+        let in_time = starts.iter().all(|s| s.end <= phrase.strokes[s.stroke].due);
+        assert_eq!(check.is_accepted(), in_time);
+        if in_time {
+            assert_eq!(check.states as usize, phrase.strokes.len() + 1);
+            for start in starts {
+                assert_eq!(check.ends[start.stroke], Range::new(start.end, start.end));
+            }
+        } else {
+            late += 1;
+            assert!(matches!(check.answer, Answer::Late { .. }));
+        }
+    }
+    assert!(late > 500);
+}
+
+#[test]
+fn a_run_is_what_the_rule_says() {
+    // Stroke 1 goes first by rank but waits for 0; stroke 2 is called at 3 and takes a driver.
+    let phrase = read(&m6()).unwrap();
+    let scenario = Scenario {
+        calls: vec![0, 0, 3],
+        holds: vec![4, 1, 2],
+    };
+    use Status::{Done, Holding, Waiting};
+    let expected = [
+        ([Holding(4), Waiting, Waiting], 1),
+        ([Holding(4), Waiting, Waiting], 1),
+        ([Holding(4), Waiting, Waiting], 1),
+        ([Holding(4), Waiting, Holding(5)], 0),
+        ([Done, Holding(5), Holding(5)], 0),
+        ([Done, Done, Done], 2),
+        ([Done, Done, Done], 2),
+    ];
+    let expected = expected.map(|(strokes, free)| State {
+        strokes: strokes.to_vec(),
+        free,
+    });
+    assert_eq!(states(&phrase, &scenario, 6), expected);
+}
+
+#[test]
+fn each_breach_is_noticed() {
+    let (phrase, check) = accepted(&P).unwrap();
+    let ends = check.ends[..2].to_vec();
+    let broken_by = |phrase: &Phrase, ends: &[Range]| {
+        all_scenarios(phrase).find_map(|scenario| demand_3(phrase, ends, &scenario).err())
+    };
+    assert_eq!(broken_by(&phrase, &ends), None);
+
+    for stroke in 0..2 {
+        for (low, high) in [(1, 0), (0, 1)] {
+            let mut narrower = ends.clone();
+            narrower[stroke].low += low;
+            narrower[stroke].high -= high;
+            assert!(broken_by(&phrase, &narrower).is_some(), "stroke {stroke}");
+        }
+    }
+    assert!(matches!(
+        broken_by(&phrase, &[Range::new(2, 5), Range::new(4, 5)]),
+        Some(Breach::NotQuiet { .. })
+    ));
+
+    let mut stricter = phrase.clone();
+    stricter.strokes[0].due = 6;
+    assert_eq!(
+        broken_by(&stricter, &ends),
+        Some(Breach::AfterDue { stroke: 0, end: 7 })
+    );
+
+    // Two strokes of one bell that do not wait for each other, on two drivers.
+    let mut careless = phrase;
+    careless.drivers = 2;
+    careless.strokes[1].bell = 0;
+    let wide = [Range::new(0, 20); 2];
+    careless
+        .strokes
+        .iter_mut()
+        .for_each(|stroke| stroke.due = 20);
+    assert!(matches!(
+        broken_by(&careless, &wide),
+        Some(Breach::Overlap { .. })
+    ));
+}
