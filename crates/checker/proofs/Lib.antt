@@ -1,0 +1,7 @@
+-- How the reader's rows come to the analysis, how its verdict becomes the result, and what an accepted result promises.
+pub mod Handover
+pub mod PerJob
+pub mod Accepted
+pub mod Results
+pub mod Readings
+pub mod Promise

@@ -1,0 +1,111 @@
+-- The result of an accepting analysis, from the words, and back to the bounds. Assumes nothing.
+use Prim.Native.Nat.{ℕ, _+_, _-_, _≤_, _<_}
+use mathlib.Core.Path.{_≡_, refl, sym, ap, _∙_}
+use mathlib.Core.Bool.{true, false≢true}
+use mathlib.Core.List.{List}
+use native.Mathlib.Nat.{zero-add}
+use native.Mathlib.Omega.{arith}
+use lib.ListN.{getD, length, take, drop, length-drop}
+use lib.Seq.{length-take-le, getD-take, getD-drop}
+use borrow.Author.Tests.{ne-eqb}
+use Rattle.model.specs.Limits.{mostJobs}
+use Rattle.model.specs.Jobs.{Job, job}
+use Rattle.model.specs.States.{Range, empty, range, isRange, earliest, latest}
+use Rattle.model.specs.Exploration.{accepted}
+use Rattle.words.proofs.Tabulate.{tabulate-is}
+use Rattle.jobs.specs.Rows.{jobsOf}
+use Rattle.jobs.proofs.Jobs.{length-jobs}
+use Rattle.analysis.specs.Observed.{observedOf}
+use Rattle.analysis.proofs.Ranges.{observed-at}
+use Rattle.checker.specs.Checking.{perJob, resultOf, boundOf, boundsOf}
+use Rattle.checker.specs.Finished.{releaseOf, responseOf, Released, Finished}
+use Rattle.checker.specs.declared.Answer.the-variants.{Accepted}
+use Rattle.checker.specs.declared.Checked.{Checked}
+use Rattle.checker.proofs.PerJob.{per-job-at, per-job-is, per-job-ext}
+use Rattle.checker.proofs.Accepted.{Reported}
+
+-- ---- from the words
+
+module _ (rows : List ℕ) (k : ℕ) (seen : List ℕ) (h : Finished rows k seen) where
+  abbrev js : List Job
+  js = jobsOf rows k
+
+  abbrev bounds : List Range
+  bounds = observedOf k seen
+
+  bound-at : (i : ℕ) → i < k → getD bounds i empty ≡ range (getD seen i 0) (getD seen (mostJobs + i) 0)
+  bound-at i b = observed-at k seen i b ∙ rw (ne-eqb (getD seen (mostJobs + i) 0) 0 (λ w. omega (arith, h .finished i b)))
+
+  -- the words of one end of every range, from a place on
+  module _ (at : ℕ) (end : Range → ℕ) (room : at + mostJobs ≤ length seen) (here : (i : ℕ) → i < k → end (getD bounds i empty) ≡ getD seen (at + i) 0)
+      (beyond : (i : ℕ) → k ≤ i → i < mostJobs → getD seen (at + i) 0 ≡ 0) where
+    abbrev finishes : List ℕ
+    finishes = take mostJobs (drop at seen)
+
+    finish-at : (i : ℕ) → i < mostJobs → getD finishes i 0 ≡ getD seen (at + i) 0
+    finish-at i b = getD-take mostJobs (drop at seen) i 0 b ∙ getD-drop at seen i 0
+
+    end-at : (i : ℕ) → i < k → getD finishes i 0 ≡ end (getD bounds i empty)
+    end-at i b = finish-at i (omega (arith, h .few)) ∙ sym (here i b)
+
+    finish-words : finishes ≡ perJob (length js) (λ i. end (getD bounds i empty))
+    finish-words =
+        per-job-is k (λ i. end (getD bounds i empty)) (h .few) finishes (length-take-le mostJobs (drop at seen) (omega (arith, length-drop at seen))) end-at
+        (λ i b q. finish-at i q ∙ beyond i b q)
+        ∙ ap (λ n. perJob n (λ i. end (getD bounds i empty))) (sym (length-jobs rows k))
+
+    response-words : perJob k (responseOf rows k finishes) ≡ perJob (length js) (λ i. end (getD bounds i empty) - job js i .earliestRelease)
+    response-words =
+        per-job-ext k (responseOf rows k finishes) (λ i. end (getD bounds i empty) - job js i .earliestRelease) (λ i b. ap (λ n. n - releaseOf rows k i) (end-at i b))
+        ∙ ap (λ n. perJob n (λ i. end (getD bounds i empty) - job js i .earliestRelease)) (sym (length-jobs rows k))
+
+  earliest-here : (i : ℕ) → i < k → earliest (getD bounds i empty) ≡ getD seen (0 + i) 0
+  earliest-here i b = ap earliest (bound-at i b) ∙ ap (λ n. getD seen n 0) (sym (zero-add i))
+
+  latest-here : (i : ℕ) → i < k → latest (getD bounds i empty) ≡ getD seen (mostJobs + i) 0
+  latest-here i b = ap latest (bound-at i b)
+
+  earliest-beyond : (i : ℕ) → k ≤ i → i < mostJobs → getD seen (0 + i) 0 ≡ 0
+  earliest-beyond i b q = ap (λ n. getD seen n 0) (zero-add i) ∙ h .observed .beyond i b q .0
+
+  latest-beyond : (i : ℕ) → k ≤ i → i < mostJobs → getD seen (mostJobs + i) 0 ≡ 0
+  latest-beyond i b q = h .observed .beyond i b q .1
+
+  low : 0 + mostJobs ≤ length seen
+  low = omega (arith, h .observed .long)
+
+  high : mostJobs + mostJobs ≤ length seen
+  high = omega (arith, h .observed .long)
+
+  pub earliest-released : Released rows k (take mostJobs (drop 0 seen))
+  earliest-released i b = omega (arith, h .released i b, end-at 0 earliest low earliest-here earliest-beyond i b, ap earliest (bound-at i b))
+
+  pub latest-released : Released rows k (take mostJobs (drop mostJobs seen))
+  latest-released i b = omega (arith, h .released i b, h .in-order i b, end-at mostJobs latest high latest-here latest-beyond i b, ap latest (bound-at i b))
+
+  pub accepted-result : (c : ℕ) (e l b w : List ℕ) → e ≡ take mostJobs (drop 0 seen) → l ≡ take mostJobs (drop mostJobs seen)
+      → b ≡ perJob k (responseOf rows k e) → w ≡ perJob k (responseOf rows k l)
+      → _≡_ {A = Checked} (record { answer = Accepted; jobs = k; earliest = e; latest = l; best = b; worst = w; states = c }) (resultOf js (accepted bounds c))
+  accepted-result c e l b w p q r t =
+      let j = sym (length-jobs rows k) in
+      let p₁ = p ∙ finish-words 0 earliest low earliest-here earliest-beyond in
+      let q₁ = q ∙ finish-words mostJobs latest high latest-here latest-beyond in
+      let r₁ = r ∙ ap (λ z. perJob k (responseOf rows k z)) p ∙ response-words 0 earliest low earliest-here earliest-beyond in
+      let t₁ = t ∙ ap (λ z. perJob k (responseOf rows k z)) q ∙ response-words mostJobs latest high latest-here latest-beyond in
+      λ n. record { answer = Accepted; jobs = j n; earliest = p₁ n; latest = q₁ n; best = r₁ n; worst = t₁ n; states = c }
+
+-- ---- back to the bounds
+
+from-ends : (r : Range) → isRange r ≡ true → range (earliest r) (latest r) ≡ r
+from-ends empty e = absurd (false≢true e)
+from-ends (range e f) q = refl
+
+-- An accepted result's bounds are the analysis's.
+pub bounds-back : (js : List Job) (d : ℕ) (bounds : List Range) (c : ℕ) → length js ≤ mostJobs → Reported js d bounds → boundsOf (resultOf js (accepted bounds c)) ≡ bounds
+unfolding boundsOf
+bounds-back js d bounds c few told =
+    tabulate-is (boundOf (resultOf js (accepted bounds c))) (length js) bounds empty (told .all-jobs)
+    (λ i b.
+    (λ n.
+    range (per-job-at (length js) (λ i. earliest (getD bounds i empty)) few i b n) (per-job-at (length js) (λ i. latest (getD bounds i empty)) few i b n))
+    ∙ from-ends (getD bounds i empty) (told .ranged i b))

@@ -1,0 +1,3 @@
+-- The check of a phrase file: its verdict, and the result that carries it.
+pub mod Checking
+pub mod Finished

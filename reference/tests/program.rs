@@ -1,0 +1,147 @@
+//! The product's check against this checker, on random phrases: through the program `checker_examples`, which the gate has proved and built.
+
+use reference::check::{Answer, Check, check};
+use reference::random::{Case, case};
+use reference::reading;
+use reference::walk::words_per_state;
+use std::env;
+use std::io::Write;
+use std::process::{Command, Stdio};
+
+/// What the program reads at once, and the words of its table.
+const INPUT_BYTES: usize = 65_536;
+const TABLE_WORDS: usize = 16_384;
+const SEED: u64 = 7;
+
+fn count() -> u64 {
+    env::var("PROGRAM_CASES").map_or(20_000, |n| n.parse().expect("PROGRAM_CASES is a number"))
+}
+
+fn program() -> String {
+    env::var("CHECKER_EXAMPLES").unwrap_or_else(|_| {
+        format!(
+            "{}/../target/bin/checker_examples",
+            env!("CARGO_MANIFEST_DIR")
+        )
+    })
+}
+
+/// How many words the check may use: two levels of as many states as have room; none on a refusal of reading.
+fn used_words(case: &Case) -> usize {
+    reading::read(&case.file).map_or(0, |phrase| {
+        let pair = 2 * words_per_state(&phrase) as usize;
+        case.table_words / pair * pair
+    })
+}
+
+fn frame(case: &Case) -> Vec<u8> {
+    let two_bytes = |n: usize| u16::try_from(n).expect("fits two bytes").to_be_bytes();
+    let mut bytes = Vec::new();
+    bytes.extend(two_bytes(case.table_words));
+    bytes.extend(two_bytes(used_words(case)));
+    bytes.extend(two_bytes(case.file.len()));
+    bytes.extend(&case.file);
+    bytes
+}
+
+fn answer(check: &Check) -> String {
+    match check.answer {
+        Answer::Accepted => "accepted".to_string(),
+        Answer::Refused { number, place } => format!("refused {number} at {place}"),
+        Answer::Late { stroke, ends } => format!("late {stroke} ends {} {}", ends.low, ends.high),
+    }
+}
+
+/// What the program should print for a case.
+fn expected(case: &Case) -> String {
+    let checked = check(&case.file, case.table_words);
+    let k = checked.strokes;
+    let row = |name: &str, words: &mut dyn Iterator<Item = u64>| {
+        let words: String = words.map(|w| format!(" {w}")).collect();
+        format!("{name}{words}, clear\n")
+    };
+    let ends = &checked.ends[..k];
+    let responses = &checked.responses[..k];
+    [
+        format!(
+            "{}, jobs {k}, states {}\n",
+            answer(&checked),
+            checked.states
+        ),
+        row("earliest", &mut ends.iter().map(|r| r.low)),
+        row("latest", &mut ends.iter().map(|r| r.high)),
+        row("best", &mut responses.iter().map(|r| r.low)),
+        row("worst", &mut responses.iter().map(|r| r.high)),
+        "rest unchanged\n".to_string(),
+    ]
+    .concat()
+}
+
+/// One run of the program.
+fn run(input: &[u8]) -> String {
+    let mut child = Command::new(program())
+        .stdin(Stdio::piped())
+        .stdout(Stdio::piped())
+        .spawn()
+        .unwrap_or_else(|e| panic!("{}: {e}; `rt check` builds it", program()));
+    let mut stdin = child.stdin.take().expect("piped");
+    let bytes = input.to_vec();
+    let writer = std::thread::spawn(move || stdin.write_all(&bytes));
+    let output = child.wait_with_output().expect("the program ends");
+    writer
+        .join()
+        .expect("no panic")
+        .expect("the program reads it all");
+    String::from_utf8(output.stdout).expect("text")
+}
+
+/// The cases of one run, with their numbers.
+struct Batch {
+    input: Vec<u8>,
+    cases: Vec<(u64, Case)>,
+}
+
+impl Batch {
+    fn new() -> Batch {
+        Batch {
+            input: Vec::new(),
+            cases: Vec::new(),
+        }
+    }
+
+    fn compare(&self) {
+        let output = run(&self.input);
+        let mut rest = output.as_str();
+        for (number, case) in &self.cases {
+            let expected = expected(case);
+            assert!(
+                rest.starts_with(&expected),
+                "case {number} of seed {SEED}, {} words, file {:02X?}:\nexpected\n{expected}but the program wrote\n{}",
+                case.table_words,
+                case.file,
+                rest.lines().take(6).collect::<Vec<_>>().join("\n"),
+            );
+            rest = &rest[expected.len()..];
+        }
+        assert_eq!(rest, "", "the program wrote more");
+    }
+}
+
+#[test]
+fn the_program_agrees_on_random_phrases() {
+    let mut batch = Batch::new();
+    for number in 0..count() {
+        let case = case(SEED, number);
+        if TABLE_WORDS < case.table_words {
+            continue;
+        }
+        let frame = frame(&case);
+        if INPUT_BYTES < batch.input.len() + frame.len() {
+            batch.compare();
+            batch = Batch::new();
+        }
+        batch.input.extend(frame);
+        batch.cases.push((number, case));
+    }
+    batch.compare();
+}
