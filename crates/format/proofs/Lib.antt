@@ -10,7 +10,6 @@ pub mod WrittenBytes
 pub mod Analysable
 pub mod Outcomes
 pub mod Lookup
-pub mod Placing
 pub mod BellRows
 pub mod BellReading
 pub mod Listed

@@ -17,10 +17,11 @@ use Rattle.format.specs.Phrase.{Bell, Note, bellOf, jobOf}
 use Rattle.model.specs.Limits.{mostJobs}
 use Rattle.format.specs.Reading.{Outcome, ok, refused, noteBytes, mostListed, noteCountAt, find, areTimes, rises, listedIn, noteIn, noteFields, noteRecord, notesFrom, notesOf}
 use Rattle.format.specs.Rows.{jobWords, jobRowsFrom}
-use Rattle.format.specs.Tables.{placed, WholeNote, bellWord, nearestIn, noteRow, jobRows, HoldsJobs}
+use Rattle.words.specs.Placed.{placed}
+use Rattle.format.specs.Tables.{WholeNote, bellWord, nearestIn, noteRow, jobRows, HoldsJobs}
 use Rattle.format.proofs.Outcomes.{same}
 use Rattle.format.proofs.Passed.{within-true, required, bound, found}
-use Rattle.format.proofs.Placing.{take-placed, placed-word}
+use Rattle.words.proofs.Placing.{take-placed, placed-word}
 use Rattle.format.proofs.Listed.{listed-few}
 use Rattle.format.proofs.JobRows.{row-length, row-bell, job-new, job-old, rows-more, nearest-in}
 

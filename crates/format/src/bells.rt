@@ -12,7 +12,8 @@ ghost use Rattle.format.specs.Phrase.{sounding};
 ghost use Rattle.format.specs.Reading.{bellBytes, bellsAt, mostBells, bellIn, isTransposition, isExecutionRange, bellInRange, find, bellRecord, bellsFrom, bellsOf};
 ghost use Rattle.format.specs.Rows.{bellWords, bellRow};
 ghost use Rattle.format.specs.Results.{foundOf, stepOf};
-ghost use Rattle.format.specs.Tables.{placed, listOf, bellsIn, BellTable, bellPut, HoldsBells};
+ghost use Rattle.words.specs.Placed.{placed};
+ghost use Rattle.format.specs.Tables.{listOf, bellsIn, BellTable, bellPut, HoldsBells};
 
 // Where the file has the bells.
 pub const BELL_COUNT_AT: usize = 6;

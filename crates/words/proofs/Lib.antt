@@ -1,3 +1,4 @@
 -- Laws of lists of words.
 pub mod Tabulate
 pub mod Parts
+pub mod Placing

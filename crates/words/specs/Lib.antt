@@ -1,2 +1,3 @@
 -- Lists of words.
 pub mod Tabulate
+pub mod Placed

@@ -11,8 +11,9 @@ use Rattle.format.specs.Phrase.{Bell}
 use Rattle.format.specs.Reading.{ok, bellBytes, bellsAt, bellRecord, bellsFrom}
 use Rattle.format.specs.Rows.{bellWords, bellRow}
 use Rattle.format.specs.Results.{stepOf}
-use Rattle.format.specs.Tables.{placed, listOf, bellsIn, BellTable, bellPut, HoldsBells}
-use Rattle.format.proofs.Placing.{tail-is}
+use Rattle.words.specs.Placed.{placed}
+use Rattle.format.specs.Tables.{listOf, bellsIn, BellTable, bellPut, HoldsBells}
+use Rattle.words.proofs.Placing.{tail-is}
 use Rattle.format.proofs.Outcomes.{was-ok, was-refused, carried}
 use Rattle.format.proofs.BellRows.{none-held, none-holds, holds-none, table-more, table-holds}
 use Rattle.format.proofs.BellReading.{long, stop, turn, done}

@@ -7,7 +7,7 @@ use lib.ListN.{length}
 use borrow.Rule.Slice.PartMut.{putMid}
 use Rattle.format.specs.Reading.{bellIn}
 use Rattle.format.specs.Rows.{bellWords, bellRow}
-use Rattle.format.proofs.Placing.{put-placed}
+use Rattle.words.proofs.Placing.{put-placed}
 use Rattle.format.proofs.BellRows.{row-length}
 use borrow.Author.Needs.{needs}
 use Rattle.format.proofs.bells.put_bell.Statement.{statement}

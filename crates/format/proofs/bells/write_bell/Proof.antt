@@ -6,7 +6,7 @@ use lib.ListN.{length-set}
 use denote.Ref.{now}
 use Rattle.format.specs.Reading.{bellIn}
 use Rattle.format.specs.Rows.{bellRow}
-use Rattle.format.proofs.Placing.{stored, placed-whole}
+use Rattle.words.proofs.Placing.{stored, placed-whole}
 use borrow.Author.Needs.{needs}
 use Rattle.format.proofs.bells.write_bell.Statement.{statement}
 use Rattle.format.proofs.bells.write_bell.Tie as tie

@@ -10,8 +10,9 @@ use Rattle.format.specs.Phrase.{Note, bellOf}
 use Rattle.format.specs.Reading.{ok, noteRecord}
 use Rattle.format.specs.Rows.{jobWords}
 use Rattle.format.specs.Results.{stepOf}
-use Rattle.format.specs.Tables.{placed, listOf, bellsIn, nearestIn, noteRow, notePut, HoldsJobs}
-use Rattle.format.proofs.Placing.{tail-is}
+use Rattle.words.specs.Placed.{placed}
+use Rattle.format.specs.Tables.{listOf, bellsIn, nearestIn, noteRow, notePut, HoldsJobs}
+use Rattle.words.proofs.Placing.{tail-is}
 use Rattle.format.proofs.Outcomes.{was-ok, was-refused, carried}
 use Rattle.format.proofs.NoteReading.{Noted, none-noted, noted-stop, noted-more, noted-fits, noted-remain, noted-done, noted-holds, holds-none}
 use Rattle.format.proofs.notes.notes_from.Statement.{statement}

@@ -9,7 +9,7 @@ use Rattle.format.specs.Reading.{noteIn}
 use Rattle.format.specs.Rows.{bellWords, jobWords}
 use Rattle.format.specs.Results.{optionOf}
 use Rattle.format.specs.Tables.{bellAt, nearestIn, noteRow}
-use Rattle.format.proofs.Placing.{put-placed, tail-is}
+use Rattle.words.proofs.Placing.{put-placed, tail-is}
 use Rattle.format.proofs.Outcomes.{option-found}
 use Rattle.format.proofs.Listed.{listed-few}
 use Rattle.format.proofs.JobRows.{row-length}

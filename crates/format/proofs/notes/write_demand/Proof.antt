@@ -4,8 +4,9 @@ use native.Mathlib.Omega.{arith}
 use denote.Ref.{now}
 use lib.ListN.{length-set}
 use Rattle.format.specs.Bytes.{be32}
-use Rattle.format.specs.Tables.{placed, bellAt, demandWords}
-use Rattle.format.proofs.Placing.{stored}
+use Rattle.words.specs.Placed.{placed}
+use Rattle.format.specs.Tables.{bellAt, demandWords}
+use Rattle.words.proofs.Placing.{stored}
 use borrow.Author.Needs.{needs}
 use Rattle.format.proofs.notes.write_demand.Statement.{statement}
 use Rattle.format.proofs.notes.write_demand.Tie as tie

@@ -4,8 +4,9 @@ use native.Mathlib.Omega.{arith}
 use denote.Ref.{now}
 use mathlib.Core.List.{[], _∷_}
 use Rattle.format.specs.Reading.{noteIn}
-use Rattle.format.specs.Tables.{placed, bellWord, originWords}
-use Rattle.format.proofs.Placing.{stored}
+use Rattle.words.specs.Placed.{placed}
+use Rattle.format.specs.Tables.{bellWord, originWords}
+use Rattle.words.proofs.Placing.{stored}
 use borrow.Author.Needs.{needs}
 use Rattle.format.proofs.notes.write_origin.Statement.{statement}
 use Rattle.format.proofs.notes.write_origin.Tie as tie

@@ -9,8 +9,9 @@ use Rattle.model.specs.Jobs.{asList}
 use Rattle.format.specs.Reading.{listedIn}
 use Rattle.format.specs.Rows.{padded, mostPredecessors}
 use Rattle.format.specs.Results.{optionOf}
-use Rattle.format.specs.Tables.{placed, countWord, predecessorWords}
-use Rattle.format.proofs.Placing.{stored}
+use Rattle.words.specs.Placed.{placed}
+use Rattle.format.specs.Tables.{countWord, predecessorWords}
+use Rattle.words.proofs.Placing.{stored}
 use Rattle.format.proofs.Listed.{listed-few, padded-length, five-words}
 use Rattle.format.proofs.JobRows.{few}
 use borrow.Author.Needs.{needs}

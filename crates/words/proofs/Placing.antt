@@ -1,4 +1,4 @@
--- A row placed in a table of words. Assumes nothing.
+-- A list placed over a part of another, a row in a table as well as a text in a buffer. Assumes nothing.
 use native.Mathlib.Nat.{add-assoc}
 use Prim.Native.Nat.{ℕ, _+_, _-_, _≤_, _<_}
 use mathlib.Core.Path.{_≡_, sym, ap, _∙_}
@@ -7,7 +7,7 @@ use native.Mathlib.Omega.{arith}
 use lib.ListN.{length, getD, take, drop, length-append, length-drop, drop-of-length-le}
 use lib.Seq.{length-take-le, take-at, drop-at, getD-take, sets, sets-eq, drop-drop, take-all}
 use borrow.Rule.Slice.PartMut.{putMid}
-use Rattle.format.specs.Tables.{placed}
+use Rattle.words.specs.Placed.{placed}
 
 module _ (t : List ℕ) (at : ℕ) (row : List ℕ) (h : at ≤ length t) where
   head-length : length (take at t ++ row) ≡ at + length row
