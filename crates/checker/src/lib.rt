@@ -7,6 +7,7 @@ ghost use Rattle.model.specs.Dispatch.{Scenario};
 ghost use Rattle.model.specs.Guarantee.{WellFormed, Admissible, Kept};
 ghost use Rattle.format.specs.Phrase.{Phrase, jobsOf};
 ghost use Rattle.format.specs.Reading.{reading, ok};
+ghost use Rattle.format.specs.Rows.{jobTable};
 ghost use Rattle.jobs.specs.Rows.{jobsOf as jobsIn, Setting};
 ghost use Rattle.checker.specs.Checking.{verdict, levelWords, usedWords, refusing, checkedOf, writtenOf, writtenFor, boundsOf};
 ghost use Rattle.checker.specs.Finished.{analysedOf};
@@ -76,6 +77,21 @@ fn analysed(rows: &[u32; JOB_TABLE], k: usize, m: usize, table: &mut [u32]) -> C
     }
 }
 
+// Checks a phrase file over a lent table, and keeps the rows of its jobs.
+pub fn check_rows(file: &[u8], rows: &mut [u32; JOB_TABLE], table: &mut [u32]) -> Checked
+    ensures answer { λ r. ⌜ r ≡ checkedOf (reading (now (file .entry))) (length (now (table .entry))) ⌝ }
+    ensures rows { λ _. ⌜ now (rows .exit) ≡ jobTable (reading (now (file .entry))) ⌝ }
+    ensures table { λ _. ⌜ drop (usedWords (reading (now (file .entry))) (length (now (table .entry)))) (now (table .exit))
+        ≡ drop (usedWords (reading (now (file .entry))) (length (now (table .entry)))) (now (table .entry)) ⌝ }
+{
+    let mut bells = [0u32; BELL_TABLE];
+    let answer = read(file, &mut bells, rows);
+    match answer {
+        Reading::Refused(number, place) => refused(Answer::Refused(number, place)),
+        Reading::Whole(counts) => analysed(rows, counts.jobs, counts.cores as usize, table),
+    }
+}
+
 // Checks a phrase file over a lent table. An accepted result keeps its promise in every run of the phrase.
 pub fn check(file: &[u8], table: &mut [u32]) -> Checked
     ensures answer { λ r. ⌜ r ≡ checkedOf (reading (now (file .entry))) (length (now (table .entry))) ⌝ }
@@ -85,11 +101,6 @@ pub fn check(file: &[u8], table: &mut [u32]) -> Checked
     ensures runs { λ r. ⌜ ((x : Phrase) → reading (now (file .entry)) ≡ ok x → r .answer ≡ Answer.Accepted
         → (s : Scenario) → Admissible (jobsOf x) s → Kept (jobsOf x) (x .cores) (boundsOf r) s) ⌝ }
 {
-    let mut bells = [0u32; BELL_TABLE];
     let mut rows = [0u32; JOB_TABLE];
-    let answer = read(file, &mut bells, &mut rows);
-    match answer {
-        Reading::Refused(number, place) => refused(Answer::Refused(number, place)),
-        Reading::Whole(counts) => analysed(&rows, counts.jobs, counts.cores as usize, table),
-    }
+    check_rows(file, &mut rows, table)
 }
