@@ -1,0 +1,47 @@
+-- How long the texts of numbers and keys are. Assumes nothing.
+use Prim.Native.Nat.{ℕ, zero, suc, _+_, _-_, _/_, _%_, _^_, _≤_, _<_, max}
+use mathlib.Core.Path.{_≡_, refl}
+use mathlib.Core.Bool.{Bool, true, false}
+use mathlib.Core.List.{List, [], _∷_}
+use native.Mathlib.Nat.{pow-suc}
+use native.Mathlib.Omega.{arith}
+use lib.Dec.{ltb}
+use lib.ListN.{length, getD, length-append}
+use borrow.Author.Tests.{ltb-true, ltb-false}
+use Rattle.text.specs.Decimal.{digit, decimal}
+use Rattle.text.specs.Keys.{names, keyText}
+use Rattle.text.proofs.Decimal.{decimal-low, decimal-high}
+
+pub length-low : (n : ℕ) → n < 10 → length (decimal n) ≡ 1
+length-low n h = rw (decimal-low n h)
+
+pub length-high : (n : ℕ) → 10 ≤ n → length (decimal n) ≡ length (decimal (n / 10)) + 1
+length-high n h = rw (decimal-high n h) (length-append (decimal (n / 10)) (digit n ∷ []))
+
+longer : (k n : ℕ) (b : Bool) → ltb n 10 ≡ b → length (decimal (n / 10)) ≤ k → length (decimal n) ≤ suc k
+longer k n true e h = omega (arith, length-low n (ltb-true n 10 e))
+longer k n false e h = omega (arith, length-high n (ltb-false n 10 e))
+
+-- k + 1 digits are enough below ten to the k + 1
+pub decimal-length : (k n : ℕ) → n < 10 ^ suc k → length (decimal n) ≤ suc k
+decimal-length zero n h = omega (arith, length-low n h)
+decimal-length (suc k) n h = longer (suc k) n (ltb n 10) refl (decimal-length k (n / 10) (omega (arith, pow-suc 10 (suc k))))
+
+abbrev longest : List (List ℕ) → ℕ
+longest [] = 0
+longest (x ∷ l) = max (length x) (longest l)
+
+at-most : (l : List (List ℕ)) (i : ℕ) → length (getD l i []) ≤ longest l
+at-most [] i = omega arith
+at-most (x ∷ l) zero = omega arith
+at-most (x ∷ l) (suc i) = omega (arith, at-most l i)
+
+pub name-length : (i : ℕ) → length (getD names i []) ≤ 2
+name-length = at-most names
+
+pub key-parts : (key : ℕ) → length (keyText key) ≡ length (getD names (key % 12) []) + length (decimal (key / 12 - 1))
+unfolding keyText
+key-parts key = length-append (getD names (key % 12) []) (decimal (key / 12 - 1))
+
+pub key-length : (key : ℕ) → key < 4294967296 → length (keyText key) ≤ 11
+key-length key h = omega (arith, key-parts key, name-length (key % 12), decimal-length 8 (key / 12 - 1) (omega arith))

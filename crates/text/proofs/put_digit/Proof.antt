@@ -1,0 +1,34 @@
+-- `put_digit` meets its contract. Assumes nothing.
+use native.Mathlib.Omega.{arith}
+use mathlib.Core.Path.{refl}
+use mathlib.Core.List.{[], _∷_}
+use denote.Ref.{now}
+use borrow.Author.Needs.{needs}
+use Rattle.words.proofs.Placing.{stored}
+use Rattle.text.specs.Decimal.{digit}
+use Rattle.text.proofs.put_digit.Statement.{statement}
+use Rattle.text.proofs.put_digit.Tie as tie
+
+add-page : tie.Need-add-page
+add-page c = search needs
+
+cast-page : tie.Need-cast-page
+cast-page c = search needs
+
+slice-write-page : tie.Need-slice-write-page
+slice-write-page c = search needs
+
+add-result : tie.Need-add-result
+add-result c = search needs
+
+same-length : tie.Need-same-length
+same-length c = search needs
+
+returns : tie.Need-returns
+returns c =
+    let a = c .args in
+    record { ended = refl; holds = stored (now (a .page)) (a .at) (digit (a .n) ∷ []) (omega arith) }
+
+pub put-digit-spec : {M : Type 1} → statement M
+put-digit-spec =
+    tie.close (tie.spec add-page cast-page slice-write-page add-result same-length returns)

@@ -1,0 +1,9 @@
+-- The bytes of a text of ASCII characters. Assumes nothing.
+use Prim.Native.Nat.{ℕ}
+use Prim.Native.Char.{code}
+use Prim.Native.String.{String, [], _∷_}
+use mathlib.Core.List as list
+
+abbrev pub bytes : String → list.List ℕ
+bytes [] = list.[]
+bytes (c ∷ s) = list._∷_ (code c) (bytes s)
