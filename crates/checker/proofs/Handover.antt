@@ -13,9 +13,9 @@ use Rattle.model.specs.Jobs.{Job, noJob, job, nearest, asList, predecessors}
 use Rattle.model.proofs.Bounds.{TimedUpTo}
 use Rattle.model.proofs.Folds.{member-here, member-there}
 use Rattle.words.proofs.Tabulate.{tabulate-is}
-use Rattle.jobs.specs.Rows.{rowWords, countAt, predecessorsAt, word, jobAt, Setting}
+use Rattle.jobs.specs.Rows.{rowWords, countAt, predecessorsAt, keyAt, word, jobAt, Setting}
 use Rattle.jobs.specs.Rows.{jobsOf as jobsIn}
-use Rattle.format.specs.Phrase.{Note, Phrase, jobOf, jobsOf}
+use Rattle.format.specs.Phrase.{Note, Phrase, noNote, note, jobOf, jobsOf}
 use Rattle.format.specs.Reading.{ok}
 use Rattle.format.specs.Rows.{padded, mostPredecessors, jobWords, jobRow, jobRowsFrom, jobTable}
 use Rattle.format.specs.Analysable.{InRanges, Analysable}
@@ -56,9 +56,6 @@ module _ (js : List Job) (i key : ℕ) (few : length (predecessors js i) ≤ mos
 
 -- ---- all rows
 
-noNote : Note
-noNote = record { key = 0; bell = 0; earliestRelease = 0; latestRelease = 0; deadline = 0; listed = [] }
-
 rows-from : (js : List Job) (a : ℕ) (ns : List Note) (more : List ℕ) → ((i : ℕ) → i < length ns → length (predecessors js (a + i)) ≤ mostPredecessors)
     → (i : ℕ) → i < length ns → (rest : List ℕ) × (drop (i * rowWords) (jobRowsFrom js a ns ++ more) ≡ jobRow js (a + i) (getD ns i noNote .key) ++ rest)
 unfolding jobRowsFrom
@@ -97,7 +94,7 @@ module _ (x : Phrase) (can : Analysable x) where
     few = can .few i (omega (arith, jobs-length))
 
     abbrev key : ℕ
-    key = getD (x .notes) i noNote .key
+    key = note x i .key
 
     row : (rest : List ℕ) × (drop (i * rowWords) rows ≡ jobRow js i key ++ rest)
     row =
@@ -123,7 +120,10 @@ module _ (x : Phrase) (can : Analysable x) where
         ap (λ l. take (word rows i 14) l) (after ∙ append-assoc (job js i .listed) (asList (nearest js (job js i .bell) i)) _)
         ∙ take-at (job js i .listed) _ (word rows i 14) (sym (word-of 14 ∙ row-last js i key few (row .0) 2))
 
-    job-of : jobAt rows i ≡ job js i
+    pub key-of : word rows i keyAt ≡ note x i .key
+    key-of = word-of keyAt ∙ row-last js i key few (row .0) 1
+
+    pub job-of : jobAt rows i ≡ job js i
     unfolding jobAt jobRow
     job-of =
         let ra = word-of 0 in

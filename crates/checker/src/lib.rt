@@ -47,7 +47,7 @@ pub struct Checked {
 }
 
 // A result with zeros beside its answer.
-fn refused(answer: Answer) -> Checked
+pub fn refused(answer: Answer) -> Checked
     ensures { λ r. ⌜ r ≡ refusing answer ⌝ }
 {
     Checked {

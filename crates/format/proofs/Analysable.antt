@@ -1,4 +1,4 @@
--- The jobs of a valid phrase are what the analysis relies on. Assumes nothing.
+-- A valid phrase is what the analysis and the report rely on. Assumes nothing.
 use Prim.Native.Nat.{ℕ, zero, suc, _+_, _≤_, _<_}
 use mathlib.Core.Path.{_≡_, refl, sym, subst}
 use mathlib.Core.Logic.{⊎-elim}
@@ -13,8 +13,8 @@ use lib.Seq.{length-take-le}
 use borrow.Author.Tests.{ltb-true}
 use Rattle.model.specs.Folds.{member}
 use Rattle.model.specs.Jobs.{job, nearest, asList, predecessors}
-use Rattle.format.specs.Phrase.{Note, Phrase, bellOf, jobOf, jobsOf}
-use Rattle.format.specs.Reading.{mostListed, rises}
+use Rattle.format.specs.Phrase.{sounding, Phrase, noNote, note, bellOf, jobOf, jobsOf}
+use Rattle.format.specs.Reading.{mostListed, lowestKey, bellInRange, rises}
 use Rattle.format.specs.Rows.{mostPredecessors}
 use Rattle.format.specs.Valid.{ValidNote, Valid}
 use Rattle.format.specs.Analysable.{InRanges, Analysable}
@@ -22,8 +22,8 @@ use Rattle.model.specs.Guarantee.{WellFormed}
 use Rattle.model.proofs.Booleans.{and-left, and-right}
 use Rattle.model.proofs.Folds.{not-in-nil, member-cases}
 use Rattle.model.proofs.Predecessors.{predecessor-earlier}
-use Rattle.format.proofs.ValidLists.{noNote, each-at, bell-of}
-use Rattle.format.proofs.Records.{bell-ranges, times}
+use Rattle.format.proofs.ValidLists.{each-at, bell-of}
+use Rattle.format.proofs.Records.{BellRanges, bell-ranges, times}
 
 getD-map : {A B : Type 0} (f : A → B) (xs : List A) (i : ℕ) (d : A) (e : B) → i < length xs → getD (map f xs) i e ≡ f (getD xs i d)
 getD-map f [] i d e l = absurd (not-suc-le-zero l)
@@ -49,32 +49,35 @@ few-near (some x) = omega arith
 -- ---- the jobs
 
 module _ (x : Phrase) (v : Valid x) (i : ℕ) (l : i < length (jobsOf x)) where
-  note : Note
-  note = getD (x .notes) i noNote
-
   inside : i < length (x .notes)
   inside = omega (arith, length-map (x .notes) (jobOf (x .bells)))
 
-  is-job : job (jobsOf x) i ≡ jobOf (x .bells) note
-  unfolding note
+  is-job : job (jobsOf x) i ≡ jobOf (x .bells) (note x i)
   is-job = getD-map (jobOf (x .bells)) (x .notes) i noNote _ inside
 
-  rule : ValidNote (x .bells) (take i (x .notes)) note
-  unfolding note
+  rule : ValidNote (x .bells) (take i (x .notes)) (note x i)
   rule = each-at (ValidNote (x .bells)) [] (x .notes) (v .notes) i noNote inside
 
   own : length (take i (x .notes)) ≡ i
   own = length-take-le i (x .notes) (omega (arith, inside))
 
+  -- the bell sounds for the key of the note
+  sounds : (bellInRange (bellOf (x .bells) (note x i)) ≡ true) × (sounding (bellOf (x .bells) (note x i)) ≡ note x i .key)
+  sounds = bell-of (x .bells) (v .bells) (note x i .key) (note x i .bell) (rule .sounds)
+
+  bell : BellRanges (bellOf (x .bells) (note x i))
+  bell = bell-ranges (bellOf (x .bells) (note x i)) (sounds .0)
+
+  key : lowestKey ≤ note x i .key
+  key = rw (sounds .1) at (bell .sounds .0)
+
   ranges : InRanges (job (jobsOf x) i)
   ranges =
-      let bell = bell-of (x .bells) (v .bells) (note .key) (note .bell) (rule .sounds) in
-      let b = bell-ranges (bellOf (x .bells) note) (bell .0) in
-      let t = times (note .earliestRelease) (note .latestRelease) (note .deadline) (rule .times) in
-      subst InRanges (sym is-job) record { execution = b .execution; release = (t .0, t .1); deadline = t .2 }
+      let t = times (note x i .earliestRelease) (note x i .latestRelease) (note x i .deadline) (rule .times) in
+      subst InRanges (sym is-job) record { execution = bell .execution; release = (t .0, t .1); deadline = t .2 }
 
   listed-earlier : (w : ℕ) → member w (job (jobsOf x) i .listed) ≡ true → w < i
-  listed-earlier w m = rises-below i 0 (note .listed) (rw own at (rule .rising)) w (rw is-job at m)
+  listed-earlier w m = rises-below i 0 (note x i .listed) (rw own at (rule .rising)) w (rw is-job at m)
 
   few : length (predecessors (jobsOf x) i) ≤ mostPredecessors
   unfolding predecessors
@@ -94,5 +97,6 @@ analysable x v =
       ranges = ranges x v;
       earlier = predecessor-earlier (jobsOf x) (x .cores) (well-formed x v);
       few = few x v;
+      keys = key x v;
       wellFormed = well-formed x v;
     }

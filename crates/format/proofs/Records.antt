@@ -33,7 +33,7 @@ executions least most e =
 -- what a bell in range says of its keys and of its execution times
 pub record BellRanges (b : Bell) : Type 0 where
   pub written : b .written ≤ highestKey
-  pub sounds : sounding b ≤ highestKey
+  pub sounds : (lowestKey ≤ sounding b) × (sounding b ≤ highestKey)
   pub execution : (1 ≤ b .leastExecution) × (b .leastExecution ≤ b .mostExecution) × (b .mostExecution ≤ longestExecution)
 
 pub bell-ranges : (b : Bell) → bellInRange b ≡ true → BellRanges b
@@ -43,7 +43,7 @@ bell-ranges b e =
     let r = and-right (isTransposition (b .transposition)) _ (and-right (isKey (b .written)) _ e) in
     let written = within-true lowestKey highestKey (b .written) (and-left (isKey (b .written)) _ e) in
     let sounds = within-true lowestKey highestKey (sounding b) (and-left (isKey (sounding b)) _ r) in
-    record { written = written .1; sounds = sounds .1; execution = executions (b .leastExecution) (b .mostExecution) (and-right (isKey (sounding b)) _ r) }
+    record { written = written .1; sounds = sounds; execution = executions (b .leastExecution) (b .mostExecution) (and-right (isKey (sounding b)) _ r) }
 
 bell-read : (b : Bell) → b .leastExecution < 65536 → b .mostExecution < 65536 → (more : List ℕ) → bellIn (bellFile b ++ more) ≡ b
 unfolding bellIn bellFile

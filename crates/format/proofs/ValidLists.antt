@@ -9,13 +9,9 @@ use native.Mathlib.Nat.{not-suc-le-zero, le-of-suc-le-suc}
 use lib.Dec.{eqb}
 use lib.ListN.{length, getD, take}
 use borrow.Author.Tests.{eqb-true}
-use Rattle.format.specs.Phrase.{Bell, sounding, Note, noBell}
+use Rattle.format.specs.Phrase.{Bell, sounding, noBell}
 use Rattle.format.specs.Reading.{bellInRange, find, findFrom}
 use Rattle.format.specs.Valid.{Each, ValidBell}
-
--- for a place past the end, which no law speaks of
-abbrev pub noNote : Note
-noNote = record { key = 0; bell = 0; earliestRelease = 0; latestRelease = 0; deadline = 0; listed = [] }
 
 pub each-at : {A : Type 0} (P : List A → A → Type 0) (before xs : List A) → Each P before xs → (i : ℕ) (d : A) → i < length xs
     → P (before ++ take i xs) (getD xs i d)

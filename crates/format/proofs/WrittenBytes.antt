@@ -9,13 +9,13 @@ use lib.Dec.{leb, ltb}
 use lib.ListN.{length, getD}
 use lib.Seq.{length-take-le}
 use borrow.Author.Tests.{ltb-true}
-use Rattle.format.specs.Phrase.{Bell, Note, Phrase, noBell, bellOf}
+use Rattle.format.specs.Phrase.{Bell, Note, Phrase, noBell, noNote, bellOf}
 use Rattle.format.specs.Reading.{noteBytes, rises}
 use Rattle.format.specs.Valid.{IsByte, AreBytes, Each, ValidBell, ValidNote, Valid}
 use Rattle.format.specs.Writing.{digits, records, bellFile, noteFile, counted, written}
 use Rattle.model.proofs.Booleans.{and-left, and-right}
 use Rattle.format.proofs.Records.{bell-ranges}
-use Rattle.format.proofs.ValidLists.{noNote, each-at, bell-of}
+use Rattle.format.proofs.ValidLists.{each-at, bell-of}
 
 -- a list of bytes, by its form
 data Bytes : List ℕ → Type 0 where

@@ -1,4 +1,4 @@
--- What the analysis relies on, of the jobs of a phrase. Assumes nothing.
+-- What the analysis and the report rely on, of a phrase. Assumes nothing.
 use Prim.Native.Nat.{ℕ, _≤_, _<_}
 use mathlib.Core.Path.{_≡_}
 use mathlib.Core.Bool.{true}
@@ -6,8 +6,9 @@ use lib.ListN.{length}
 use Rattle.model.specs.Folds.{member}
 use Rattle.model.specs.Jobs.{Job, job, predecessors}
 use Rattle.model.specs.Guarantee.{WellFormed}
-use Rattle.format.specs.Phrase.{Phrase, jobsOf}
+use Rattle.format.specs.Phrase.{Phrase, note, jobsOf}
 use Rattle.model.specs.Limits.{mostCores, mostJobs, longestExecution, latestTime}
+use Rattle.format.specs.Reading.{lowestKey}
 use Rattle.format.specs.Rows.{mostPredecessors}
 
 -- The fields of a job lie in their ranges.
@@ -16,12 +17,13 @@ pub record InRanges (j : Job) : Type 0 where
   pub release : (j .earliestRelease ≤ j .latestRelease) × (j .latestRelease ≤ latestTime)
   pub deadline : j .deadline ≤ latestTime
 
--- Counts and times are small, and the predecessors of a job few and smaller than the job.
+-- Counts and times are small, the predecessors of a job few and smaller than the job, and its key one that a bell sounds for.
 pub record Analysable (x : Phrase) : Type 0 where
   pub cores : (1 ≤ x .cores) × (x .cores ≤ mostCores)
   pub jobCount : length (jobsOf x) ≤ mostJobs
   pub ranges : (i : ℕ) → i < length (jobsOf x) → InRanges (job (jobsOf x) i)
   pub earlier : (i : ℕ) → i < length (jobsOf x) → (w : ℕ) → member w (predecessors (jobsOf x) i) ≡ true → w < i
   pub few : (i : ℕ) → i < length (jobsOf x) → length (predecessors (jobsOf x) i) ≤ mostPredecessors
+  pub keys : (i : ℕ) → i < length (jobsOf x) → lowestKey ≤ note x i .key
   -- the premises of demand 3
   pub wellFormed : WellFormed (jobsOf x) (x .cores)

@@ -1,7 +1,7 @@
 -- A phrase: what its file holds, and the jobs that the analysis makes of it. Assumes nothing.
 use Prim.Native.Nat.{ℕ, _+_, _-_}
 use mathlib.Core.Bool.{cond}
-use mathlib.Core.List.{List, map}
+use mathlib.Core.List.{List, [], map}
 use lib.Dec.{ltb}
 use lib.ListN.{getD}
 use Rattle.model.specs.Jobs.{Job}
@@ -37,6 +37,13 @@ pub record Phrase : Type 0 where
 
 abbrev pub noBell : Bell
 noBell = record { written = 0; transposition = 0; leastExecution = 0; mostExecution = 0; priority = 0 }
+
+abbrev pub noNote : Note
+noNote = record { key = 0; bell = 0; earliestRelease = 0; latestRelease = 0; deadline = 0; listed = [] }
+
+-- the note of job i
+abbrev pub note : Phrase → ℕ → Note
+note x i = getD (x .notes) i noNote
 
 abbrev pub bellOf : List Bell → Note → Bell
 bellOf bells n = getD bells (n .bell) noBell

@@ -42,6 +42,9 @@ mostPredecessors = 5
 abbrev pub bellAt : ℕ
 bellAt = 12
 
+abbrev pub keyAt : ℕ
+keyAt = 13
+
 -- the number of predecessors that the note lists
 abbrev pub listedAt : ℕ
 listedAt = 14
