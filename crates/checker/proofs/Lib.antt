@@ -1,7 +1,8 @@
--- How the reader's rows come to the analysis, how its verdict becomes the result, and what an accepted result promises.
+-- How the reader's rows come to the analysis, how its verdict becomes the result, what an accepted result promises, and which numbers are written.
 pub mod Handover
 pub mod PerJob
 pub mod Accepted
 pub mod Results
 pub mod Readings
 pub mod Promise
+pub mod Refusals

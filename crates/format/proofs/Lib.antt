@@ -16,3 +16,4 @@ pub mod Listed
 pub mod JobRows
 pub mod NoteReading
 pub mod FileReading
+pub mod Refusals

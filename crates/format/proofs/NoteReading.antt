@@ -74,7 +74,7 @@ module _ (bs : List Bell) (own at : ℕ) (p : List ℕ) where
         let rise = required (rises own 0 (listedIn p)) 12 at (time .1) in
         ap (λ (n : Note). n .listed) (same a (noteIn p (bell .0)) (sym (rise .1)))
 
-    record-is : noteRecord bs own at p ≡ ok a → WholeNote p × (a .listed ≡ listedIn p)
+    pub record-is : noteRecord bs own at p ≡ ok a → WholeNote p × (a .listed ≡ listedIn p)
     unfolding noteRecord
     record-is e =
         let some = required (leb 1 (length p)) 3 at e in

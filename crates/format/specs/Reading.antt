@@ -40,6 +40,10 @@ mostBells = 96
 abbrev pub mostListed : ℕ
 mostListed = 4
 
+-- no phrase has a longer file: the most bells, the count of notes, and the most notes, each with the most numbers listed
+abbrev pub mostBytes : ℕ
+mostBytes = bellsAt + mostBells * bellBytes + 1 + mostJobs * (1 + noteBytes + mostListed)
+
 abbrev pub lowestKey : ℕ
 lowestKey = 12
 
