@@ -1,0 +1,49 @@
+-- `put_place` meets its contract: refusal 13 is at a level. Assumes nothing.
+use native.Mathlib.Omega.{arith}
+use borrow.Author.Tests.{eq-eqb, ne-eqb}
+use borrow.Author.Needs.{needs}
+use Rattle.report.proofs.lines.put_place.Statement.{statement}
+use Rattle.report.proofs.lines.put_place.Tie as tie
+
+slice-aggregate-put-labelled : tie.Need-slice-aggregate-put-labelled
+slice-aggregate-put-labelled c = search needs
+
+put-labelled-requires : tie.Need-put-labelled-requires
+put-labelled-requires c κs = search needs
+
+slice-aggregate-put-labelled-2 : tie.Need-slice-aggregate-put-labelled-2
+slice-aggregate-put-labelled-2 c = search needs
+
+put-labelled-requires-2 : tie.Need-put-labelled-requires-2
+put-labelled-requires-2 c κs = search needs
+
+same-length : tie.Need-same-length
+same-length c = search needs
+
+returns : tie.Need-returns
+returns c =
+    let a = c .before .before .before .before .before .before .before in
+    let w = c .before .before .put-labelled in
+    (rw (eq-eqb (a .args .number) 13 (c .before .before .before .before .before .if1 .taken)) (w .ensures .0), omega (arith, w .ensures .1))
+
+same-length-2 : tie.Need-same-length-2
+same-length-2 c = search needs
+
+returns-2 : tie.Need-returns-2
+returns-2 c =
+    let a = c .before .before .before .before .before .before .before in
+    let w = c .before .before .put-labelled2 in
+    (rw (ne-eqb (a .args .number) 13 (c .before .before .before .before .before .if1 .left)) (w .ensures .0), omega (arith, w .ensures .1))
+
+pub put-place-spec : {M : Type 1} → statement M
+put-place-spec =
+    tie.close
+    (tie.spec
+    slice-aggregate-put-labelled
+    put-labelled-requires
+    slice-aggregate-put-labelled-2
+    put-labelled-requires-2
+    same-length
+    returns
+    same-length-2
+    returns-2)

@@ -1,0 +1,71 @@
+-- `put_strokes` meets its contract: the text so far is the lines of the strokes so far. Assumes nothing.
+use Prim.Native.Nat.{_-_, _*_, _≤_}
+use mathlib.Core.Path.{_≡_, refl, _∙_}
+use native.Mathlib.Omega.{arith}
+use lib.ListN.{length}
+use borrow.Author.Needs.{needs}
+use Rattle.words.specs.Placed.{placed}
+use Rattle.text.specs.Written.{Written}
+use Rattle.text.proofs.Writing.{more}
+use Rattle.report.specs.Lines.{strokeLine, lines}
+use Rattle.report.specs.Room.{lineRoom}
+use Rattle.report.specs.Rows.{strokeIn}
+use Rattle.report.proofs.Series.{lines-next}
+use Rattle.report.proofs.strokes.put_strokes.Statement.{statement}
+use Rattle.report.proofs.strokes.put_strokes.Tie as tie
+
+abbrev Inv-loop : tie.InvT-loop
+Inv-loop page₀ rows k earliest latest best worst at₀ i₀ page at i =
+    (i ≤ k) × Written page₀ 0 (lines (λ j. strokeLine (strokeIn rows earliest latest best worst j)) i) page at × (at ≤ i * lineRoom) × (length page ≡ length page₀)
+
+abbrev μ-loop : tie.MeasureT-loop
+μ-loop page₀ rows k earliest latest best worst at₀ i₀ page at i = k - i
+
+loop-holds : tie.Need-loop-holds Inv-loop μ-loop
+unfolding lines placed
+loop-holds c = (omega arith, record { ended = refl; holds = refl }, omega arith, refl)
+
+stroke-requires : tie.Need-stroke-requires Inv-loop μ-loop
+stroke-requires c κs = omega (arith, c .before .before .before .before .pre .0)
+
+put-stroke-requires : tie.Need-put-stroke-requires Inv-loop μ-loop
+put-stroke-requires c κs =
+    let a = c .before .before .before .before .before in
+    (rw (c .stroke .ensures) (a .pre .2 (c .before .before .before .loop .i) (omega arith)), omega (arith, a .pre .0, a .pre .1))
+
+add-i : tie.Need-add-i Inv-loop μ-loop
+add-i c = search needs
+
+loop-less : tie.Need-loop-less Inv-loop μ-loop
+loop-less c = omega arith
+
+loop-again : tie.Need-loop-again Inv-loop μ-loop
+loop-again c =
+    let v = c .before .before .before .before .before .before .loop in
+    let w = c .before .before .put-stroke in
+    let line = rw (c .before .before .before .stroke .ensures) at (w .ensures .0) in
+    (omega arith, rw lines-next (more (omega arith) (v .inv .1) line), omega (arith, w .ensures .1), w .kept .0 ∙ v .inv .3)
+
+same-length : tie.Need-same-length Inv-loop μ-loop
+same-length c = search needs
+
+returns : tie.Need-returns Inv-loop μ-loop
+returns c =
+    let v = c .before .loop in
+    let e : v .i ≡ c .before .before .before .args .k = omega arith in
+    (rw e at (v .inv .1), rw e at (v .inv .2))
+
+pub put-strokes-spec : {M : Type 1} → statement M
+put-strokes-spec =
+    tie.close
+    (tie.spec
+    Inv-loop
+    μ-loop
+    loop-holds
+    stroke-requires
+    put-stroke-requires
+    add-i
+    loop-less
+    loop-again
+    same-length
+    returns)

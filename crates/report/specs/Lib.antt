@@ -1,0 +1,5 @@
+-- The report of a check: its text, to the byte, and its result.
+pub mod Lines
+pub mod Report
+pub mod Room
+pub mod Rows

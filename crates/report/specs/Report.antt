@@ -1,0 +1,81 @@
+-- The report of a phrase file: its text, what it leaves in a buffer, and its result. Assumes nothing.
+use Prim.Native.Nat.{ℕ, zero, suc, _+_, _-_}
+use mathlib.Core.Bool.{Bool, cond}
+use mathlib.Core.List.{List, _++_}
+use lib.Dec.{leb}
+use lib.ListN.{getD, length, drop}
+use Rattle.model.specs.Jobs.{job}
+use Rattle.model.specs.States.{Range, empty, earliest, latest}
+use Rattle.model.specs.Exploration.{accepted, refused, late}
+use Rattle.model.specs.Exploration.{Answer as Verdict}
+use Rattle.format.specs.Phrase.{Phrase, note, jobsOf}
+use Rattle.format.specs.Reading.{Outcome, ok}
+use Rattle.format.specs.Reading.{refused as unread}
+use Rattle.checker.specs.Checking.{verdict, refusing, checkedOf, Written, writtenFor}
+use Rattle.checker.specs.declared.Answer.the-variants.{Refused}
+use Rattle.checker.specs.declared.Checked.{Checked}
+use Rattle.report.specs.Lines.{strokeLine, lines, acceptedLine, refusedLine, lateLine}
+use Rattle.report.specs.declared.lines.Stroke.{Stroke}
+use Rattle.report.specs.declared.Reported.{Reported}
+
+-- ---- the text
+
+-- What the line of a stroke tells: its number, the key of its note, its bell, the bounds of its finish time (its ends) and of its response, which is the
+-- finish time minus the earliest release (ra), and its deadline.
+abbrev pub strokeOf : Phrase → List Range → ℕ → Stroke
+strokeOf x bounds i =
+    record {
+      number = i;
+      key = note x i .key;
+      bell = job (jobsOf x) i .bell;
+      earliest = earliest (getD bounds i empty);
+      latest = latest (getD bounds i empty);
+      best = earliest (getD bounds i empty) - job (jobsOf x) i .earliestRelease;
+      worst = latest (getD bounds i empty) - job (jobsOf x) i .earliestRelease;
+      deadline = job (jobsOf x) i .deadline;
+    }
+
+-- f 0 + .. + f (n - 1)
+unfoldable pub sum : (ℕ → ℕ) → ℕ → ℕ
+sum f zero = 0
+sum f (suc n) = sum f n + f n
+
+-- the longest executions (cb) of all strokes together
+abbrev pub holdOf : Phrase → ℕ
+holdOf x = sum (λ i. job (jobsOf x) i .mostExecution) (length (jobsOf x))
+
+-- A line for each stroke and a last one, where all are in time; else the line of the refusal.
+abbrev pub textFor : Phrase → Verdict → List ℕ
+textFor x (accepted bounds c) = lines (λ i. strokeLine (strokeOf x bounds i)) (length (jobsOf x)) ++ acceptedLine (length (jobsOf x)) c (holdOf x)
+textFor x (refused n at) = refusedLine n at
+textFor x (late i e f) = lateLine i e f
+
+abbrev pub textOf : Outcome Phrase → ℕ → List ℕ
+textOf (ok x) words = textFor x (verdict (ok x) words)
+textOf (unread n at) words = refusedLine n at
+
+-- ---- the buffer and the result
+
+-- a text of so many bytes has room in a buffer of so many
+abbrev pub fits : List ℕ → List ℕ → Bool
+fits text buffer = leb (length text) (length buffer)
+
+-- The text and what was there after it; a buffer that is shorter than the text is left as it was.
+abbrev pub delivered : List ℕ → List ℕ → List ℕ
+delivered text buffer = cond (fits text buffer) (text ++ drop (length text) buffer) buffer
+
+-- so many bytes of the buffer hold the text
+abbrev pub lengthIn : List ℕ → List ℕ → ℕ
+lengthIn text buffer = cond (fits text buffer) (length text) 0
+
+-- The check's result, with the text's length; refusal 15 in its place where the buffer is shorter than the text.
+abbrev pub reportedIn : Checked → List ℕ → List ℕ → Reported
+reportedIn r text buffer = record { checked = cond (fits text buffer) r (refusing (Refused 15 0)); length = lengthIn text buffer }
+
+abbrev pub reportedOf : Outcome Phrase → ℕ → List ℕ → Reported
+reportedOf o words buffer = reportedIn (checkedOf o words) (textOf o words) buffer
+
+-- what document 01 writes of it
+abbrev pub writtenIn : Outcome Phrase → ℕ → List ℕ → Written
+writtenIn o words buffer =
+    cond (fits (textOf o words) buffer) (writtenFor (verdict o words)) (record { number = 15; place = 0; earliest = 0; latest = 0 })
