@@ -6,14 +6,14 @@ use mathlib.Core.List.{List}
 use native.Mathlib.Nat.{zero-add}
 use native.Mathlib.Omega.{arith}
 use lib.ListN.{length, take}
-use borrow.Author.Tests.{le-leb, lt-leb}
+use borrow.Author.Tests.{le-leb, lt-leb, leb-true, leb-false}
 use Rattle.words.specs.Placed.{placed}
 use Rattle.words.proofs.Placing.{take-placed}
 use Rattle.text.specs.Written.{Written as WrittenOn}
 use Rattle.checker.specs.Checking.{refusing, Written, writtenOf}
 use Rattle.checker.specs.declared.Answer.the-variants.{Accepted, Refused}
 use Rattle.checker.specs.declared.Checked.{Checked}
-use Rattle.report.specs.Report.{delivered, reportedIn}
+use Rattle.report.specs.Report.{fits, delivered, lengthIn, reportedIn}
 use Rattle.report.specs.declared.Reported.{Reported}
 
 module _ (text buffer : List ℕ) where
@@ -30,6 +30,21 @@ module _ (text buffer : List ℕ) where
 
   pub whole-reported : (r : Checked) → length text ≤ length buffer → _≡_ {A = Reported} (record { checked = r; length = length text }) (reportedIn r text buffer)
   whole-reported r h = rw (le-leb (length text) (length buffer) h)
+
+  in-buffer : (b : Bool) → fits text buffer ≡ b → cond b (length text) 0 ≤ length buffer
+  in-buffer true e = leb-true (length text) (length buffer) e
+  in-buffer false e = omega arith
+
+  pub length-within : (r : Checked) (s : Reported) → s ≡ reportedIn r text buffer → s .length ≤ length buffer
+  length-within r s e = omega (arith, ap (λ (y : Reported). y .length) e, in-buffer (fits text buffer) refl)
+
+  none-in-buffer : 1 ≤ length text → (b : Bool) → fits text buffer ≡ b → cond b (length text) 0 ≡ 0 → length buffer < length text
+  none-in-buffer h true e z = absurd (omega arith)
+  none-in-buffer h false e z = leb-false (length text) (length buffer) e
+
+  -- a text that is not empty has no length only where the buffer is shorter
+  pub none-only-short : 1 ≤ length text → lengthIn text buffer ≡ 0 → length buffer < length text
+  none-only-short h z = none-in-buffer h (fits text buffer) refl z
 
 -- the text at the beginning of a page
 pub written-front : (before text after : List ℕ) (end : ℕ) → WrittenOn before 0 text after end → take end after ≡ text

@@ -3,7 +3,7 @@ use Prim.Native.Nat.{ℕ, _-_, _≤_, _<_}
 use mathlib.Core.Path.{_≡_, refl, sym, ap, subst₂}
 use mathlib.Core.List.{List, _++_}
 use native.Mathlib.Omega.{arith}
-use lib.ListN.{getD, length}
+use lib.ListN.{getD, length, length-append}
 use Rattle.model.specs.Limits.{mostJobs}
 use Rattle.model.specs.Jobs.{Job, job}
 use Rattle.model.specs.States.{Range, empty, earliest, latest}
@@ -21,7 +21,7 @@ use Rattle.checker.specs.declared.Checked.{Checked}
 use Rattle.checker.proofs.Handover.{jobs-length, key-of, job-of}
 use Rattle.checker.proofs.PerJob.{per-job-at}
 use Rattle.checker.proofs.Promise.{can-analyse}
-use Rattle.report.specs.Lines.{strokeLine, acceptedLine}
+use Rattle.report.specs.Lines.{labelled, strokeLine, lines, acceptedLine, refusedLine, lateLine}
 use Rattle.report.specs.Report.{strokeOf, holdOf, textFor, textOf}
 use Rattle.report.specs.Rows.{strokeIn, holdIn, Keyed, acceptedText, textIn}
 use Rattle.report.proofs.Series.{lines-ext, sum-ext}
@@ -96,3 +96,19 @@ module _ (file : List ℕ) (bytes : AreBytes file) (words : ℕ) where
   pub composed : (r : Checked) (rows : List ℕ) → r ≡ checkedOf (reading file) words → rows ≡ jobTable (reading file)
       → Composed r rows (textOf (reading file) words)
   composed r rows p q = subst₂ (λ (s : Checked) (l : List ℕ). Composed s l (textOf (reading file) words)) (sym p) (sym q) (composed-from (reading file) refl)
+
+-- ---- no text is empty
+
+text-for-long : (x : Phrase) (v : Verdict) → 1 ≤ length (textFor x v)
+unfolding labelled acceptedLine refusedLine lateLine
+text-for-long x (accepted bounds c) =
+    let last = acceptedLine (length (jobsOf x)) c (holdOf x) in
+    let h : 1 ≤ length last = omega arith in
+    omega (arith, h, length-append (lines (λ i. strokeLine (strokeOf x bounds i)) (length (jobsOf x))) last)
+text-for-long x (refused n at) = omega arith
+text-for-long x (late i e f) = omega arith
+
+pub text-long : (o : Outcome Phrase) (words : ℕ) → 1 ≤ length (textOf o words)
+unfolding labelled refusedLine
+text-long (ok x) words = text-for-long x (verdict (ok x) words)
+text-long (unread n at) words = omega arith

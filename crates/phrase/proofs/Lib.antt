@@ -1,0 +1,2 @@
+-- What the number that a host gets says.
+pub mod Numbers

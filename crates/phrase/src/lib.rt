@@ -1,0 +1,80 @@
+// What a host program in C calls: check and report, over a lent table or a table of their own.
+ghost use mathlib.Core.Path.{_≡_};
+ghost use Prim.Native.Nat.{_<_};
+ghost use lib.ListN.{length, drop};
+ghost use Rattle.format.specs.Reading.{reading};
+ghost use Rattle.checker.specs.Checking.{verdict, usedWords, writtenOf};
+ghost use Rattle.report.specs.Report.{textOf, delivered, lengthIn};
+ghost use Rattle.phrase.specs.Host.{tableWords, places, numberOf, numberFor, Playable};
+use checker::Answer;
+use checker::check;
+use report::report;
+
+// The words of a table of its own.
+const TABLE_WORDS: usize = 16384;
+
+// So many places have numbers of their own beside each refusal number.
+const PLACES: u64 = 4294967296;
+
+// The number of the refusal of a late job.
+const LATE: u64 = 14;
+
+fn number(answer: Answer) -> u64
+    requires { ⌜ writtenOf answer .place < places ⌝ }
+    ensures { λ r. ⌜ r ≡ numberOf (writtenOf answer) ⌝ }
+{
+    match answer {
+        Answer::Accepted => 0,
+        Answer::Refused(number, place) => number as u64 * PLACES + place as u64,
+        Answer::Late(job, _, _) => LATE * PLACES + job as u64,
+    }
+}
+
+// Checks a phrase file over a lent table.
+#[no_mangle]
+pub extern "C" fn phrase_check_with(file: &[u8], table: &mut [u32]) -> u64
+    ensures number { λ r. ⌜ r ≡ numberFor (reading (now (file .entry))) (length (now (table .entry))) ⌝ }
+    ensures table { λ _. ⌜ drop (usedWords (reading (now (file .entry))) (length (now (table .entry)))) (now (table .exit))
+        ≡ drop (usedWords (reading (now (file .entry))) (length (now (table .entry)))) (now (table .entry)) ⌝ }
+    ensures runs { λ r. ⌜ (r ≡ 0 → Playable (reading (now (file .entry)))
+        (verdict (reading (now (file .entry))) (length (now (table .entry))))) ⌝ }
+{
+    let checked = check(file, table);
+    let answer = checked.answer;
+    number(answer)
+}
+
+// Checks a phrase file.
+#[no_mangle]
+pub extern "C" fn phrase_check(file: &[u8]) -> u64
+    ensures number { λ r. ⌜ r ≡ numberFor (reading (now (file .entry))) tableWords ⌝ }
+    ensures runs { λ r. ⌜ (r ≡ 0 → Playable (reading (now (file .entry))) (verdict (reading (now (file .entry))) tableWords)) ⌝ }
+{
+    let mut table = [0u32; TABLE_WORDS];
+    phrase_check_with(file, &mut table)
+}
+
+// Reports on a phrase file over a lent table.
+#[no_mangle]
+pub extern "C" fn phrase_report_with(file: &[u8], table: &mut [u32], text: &mut [u8]) -> usize
+    ensures length { λ r. ⌜ r ≡ lengthIn (textOf (reading (now (file .entry))) (length (now (table .entry)))) (now (text .entry)) ⌝ }
+    ensures short { λ r. ⌜ (r ≡ 0 → length (now (text .entry)) < length (textOf (reading (now (file .entry))) (length (now (table .entry))))) ⌝ }
+    ensures text { λ _. ⌜ now (text .exit)
+        ≡ delivered (textOf (reading (now (file .entry))) (length (now (table .entry)))) (now (text .entry)) ⌝ }
+    ensures table { λ _. ⌜ drop (usedWords (reading (now (file .entry))) (length (now (table .entry)))) (now (table .exit))
+        ≡ drop (usedWords (reading (now (file .entry))) (length (now (table .entry)))) (now (table .entry)) ⌝ }
+{
+    let reported = report(file, table, text);
+    reported.length
+}
+
+// Reports on a phrase file.
+#[no_mangle]
+pub extern "C" fn phrase_report(file: &[u8], text: &mut [u8]) -> usize
+    ensures length { λ r. ⌜ r ≡ lengthIn (textOf (reading (now (file .entry))) tableWords) (now (text .entry)) ⌝ }
+    ensures short { λ r. ⌜ (r ≡ 0 → length (now (text .entry)) < length (textOf (reading (now (file .entry))) tableWords)) ⌝ }
+    ensures text { λ _. ⌜ now (text .exit) ≡ delivered (textOf (reading (now (file .entry))) tableWords) (now (text .entry)) ⌝ }
+{
+    let mut table = [0u32; TABLE_WORDS];
+    phrase_report_with(file, &mut table, text)
+}
