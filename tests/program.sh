@@ -1,0 +1,213 @@
+#!/usr/bin/env bash
+# Runs the program phrasecheck on every example of document 01 that it can show, on examples/ and at the limit of its input, and compares what it prints
+# byte by byte. PHRASECHECK names another program than target/bin/phrasecheck, which `rt check phrasecheck` builds.
+set -euo pipefail
+cd "$(dirname "$0")/.."
+program=${PHRASECHECK:-target/bin/phrasecheck}
+if [ ! -x "$program" ]; then
+  echo "tests/program.sh: there is no program $program; \`rt check phrasecheck\` builds it" >&2
+  exit 2
+fi
+folder=$(mktemp -d)
+trap 'rm -rf "$folder"' EXIT
+checks=0
+failed=0
+
+# ---- Files from hexadecimal ----
+
+# digits: standard input without blanks and remarks.
+digits() {
+  sed 's/#.*//' | tr -d ' \n'
+}
+
+# bytes HEX: the bytes of pairs of hexadecimal digits.
+bytes() {
+  local hex
+  hex=$(digits <<<"$1")
+  if [[ ! $hex =~ ^([0-9A-F]{2})*$ ]]; then
+    echo "tests/program.sh: not hexadecimal: $1" >&2
+    exit 2
+  fi
+  # shellcheck disable=SC2001,SC2059
+  printf "$(sed 's/../\\x&/g' <<<"$hex")"
+}
+
+# counted HEX: version and count before what the count counts.
+counted() {
+  local hex
+  hex=$(digits <<<"$1")
+  printf '01 %08X %s' $((${#hex} / 2)) "$hex"
+}
+
+# with HEX PLACE BYTE [PLACE BYTE]..: HEX with bytes changed.
+with() {
+  local hex
+  hex=$(digits <<<"$1")
+  shift
+  while [ $# -ge 2 ]; do
+    hex=${hex:0:2*$1}$2${hex:2*$1+2}
+    shift 2
+  done
+  printf '%s' "$hex"
+}
+
+# ---- Comparing ----
+
+# compare NAME EXPECTED FOUND: two files.
+compare() {
+  checks=$((checks + 1))
+  if ! cmp -s "$2" "$3"; then
+    failed=$((failed + 1))
+    printf 'tests/program.sh: FAILED: %s\n--- due\n' "$1"
+    head -c 400 "$2"
+    printf -- '--- found\n'
+    head -c 400 "$3"
+    printf -- '---\n'
+  fi
+}
+
+# prints NAME INPUT EXPECTED: the program, on the file INPUT, prints the file EXPECTED, complains of nothing and does not crash.
+# Document 01 names no exit status, so any other is fine.
+prints() {
+  local status=0
+  "$program" <"$2" >"$folder/out" 2>"$folder/err" || status=$?
+  if [ "$status" -ge 126 ]; then
+    echo "(exit status $status)" >>"$folder/err"
+  fi
+  compare "$1" "$3" "$folder/out"
+  compare "$1: standard error" /dev/null "$folder/err"
+}
+
+# shows NAME HEX LINE..: the program prints these lines for these bytes.
+shows() {
+  local name=$1
+  bytes "$2" >"$folder/in"
+  shift 2
+  printf '%s\n' "$@" >"$folder/due"
+  prints "$name" "$folder/in" "$folder/due"
+}
+
+# ---- The examples that are kept as files ----
+
+for example in phrase-p etude; do
+  bytes "$(cat "examples/$example.hex")" >"$folder/in"
+  compare "examples/$example.phrase is made of $example.hex" "$folder/in" "examples/$example.phrase"
+  prints "examples/$example.phrase" "examples/$example.phrase" "examples/$example.report"
+done
+
+# ---- P, and the table of refusals ----
+
+P='01 0000002D 01 02 3C0000020002 01 3E0C00040004 02 02 0D 3C 00000000 00000005 00000007 0D 4A 00000000 00000000 00000006'
+
+shows 'P' "$P" \
+  'stroke 0 key C4 bell 0 ends 2..7 response 2..7 due 7' \
+  'stroke 1 key D5 bell 1 ends 4..6 response 4..6 due 6' \
+  'accepted strokes 2 states 4 hold 6'
+shows 'row 1' '09' 'refused 1 at 0'
+shows 'row 2' '01 00 00' 'refused 2 at 0'
+shows 'row 3' '01 00000001 01' 'refused 3 at 6'
+shows 'row 4' '01 00000001 00' 'refused 4 at 5'
+shows 'row 5' '01 00000002 01 00' 'refused 5 at 6'
+shows 'row 6' "$(with "$P" 7 0B)" 'refused 6 at 7'
+shows 'row 7' "$(with "$P" 15 FE)" 'refused 7 at 14'
+shows 'row 8' "$(with "$P" 21 41)" 'refused 8 at 21'
+shows 'row 9' "$(with "$P" 22 0C)" 'refused 9 at 22'
+shows 'row 10' "$(with "$P" 37 3E)" 'refused 10 at 36'
+shows 'row 11' "$(with "$P" 27 06)" 'refused 11 at 22'
+shows 'row 12' "$(with "$P" 4 2E 36 0E) 01" 'refused 12 at 36'
+shows 'row 14, M3' "$(with "$P" 35 06)" 'refused 14 stroke 0 ends 6..7'
+
+shows 'the empty file' '' 'refused 2 at 0'
+shows 'a count one too large' "$(with "$P" 4 2E)" 'refused 2 at 0'
+shows 'bytes remain' "$(with "$P" 4 2E) 00" 'refused 3 at 50'
+shows 'due before it is called' "$(with "$P" 27 05 35 04)" 'refused 14 stroke 0 ends 7..7'
+
+# Row 13 with 16,384 words: on one driver any of K strokes may go first, so level 1 has K states. There is room for 62 with K = 64, for 63 with K = 63.
+all_go_first() {
+  local bells='' notes='' key
+  for ((key = 12; key < 12 + $1; key++)); do
+    bells+=$(printf '%02X 00 0001 0001 01 ' "$key")
+    notes+=$(printf '0D %02X 00000000 00000064 0036EE80 ' "$key")
+  done
+  counted "$(printf '01 %02X %s %02X %s' "$1" "$bells" "$1" "$notes")"
+}
+shows 'row 13, 64 strokes' "$(all_go_first 64)" 'refused 13 level 1'
+shows 'row 13, 63 strokes' "$(all_go_first 63)" 'refused 13 level 2'
+
+# ---- The marked phrases; M2 is P and M3 row 14, M4 needs a table of another size ----
+
+hour=0036EE80 # 3600000
+
+shows 'M1' "$(counted "01 02 3C00 0001 0002 01 3E00 0003 0003 02 02 0D 3C 00000000 00000000 $hour 0D 3E 00000000 00000000 $hour")" \
+  'stroke 0 key C4 bell 0 ends 1..2 response 1..2 due 3600000' \
+  'stroke 1 key D4 bell 1 ends 4..5 response 4..5 due 3600000' \
+  'accepted strokes 2 states 3 hold 5'
+shows 'M5' "$(counted "02 03 3C00 0002 0002 01 3E00 0005 0005 02 4000 0001 0003 03
+    03 0D 3C 00000000 00000000 $hour 0D 3E 00000000 00000000 $hour 0D 40 00000000 00000000 $hour")" \
+  'stroke 0 key C4 bell 0 ends 2..2 response 2..2 due 3600000' \
+  'stroke 1 key D4 bell 1 ends 5..5 response 5..5 due 3600000' \
+  'stroke 2 key E4 bell 2 ends 3..5 response 3..5 due 3600000' \
+  'accepted strokes 3 states 4 hold 10'
+shows 'M6' "$(counted "02 03 3C00 0002 0004 02 3E00 0001 0001 01 4000 0002 0002 03
+    03 0D 3C 00000000 00000000 $hour 0E 3E 00000000 00000000 $hour 00 0D 40 00000003 00000003 $hour")" \
+  'stroke 0 key C4 bell 0 ends 2..4 response 2..4 due 3600000' \
+  'stroke 1 key D4 bell 1 ends 3..5 response 3..5 due 3600000' \
+  'stroke 2 key E4 bell 2 ends 5..6 response 2..3 due 3600000' \
+  'accepted strokes 3 states 5 hold 7'
+shows 'M7' "$(counted "01 02 3C00 0001 0001 01 3E00 0001 0001 01 02 0D 3C 00000000 00000000 $hour 0D 3E 00000000 00000000 $hour")" \
+  'stroke 0 key C4 bell 0 ends 1..1 response 1..1 due 3600000' \
+  'stroke 1 key D4 bell 1 ends 2..2 response 2..2 due 3600000' \
+  'accepted strokes 2 states 3 hold 2'
+shows 'M8' "$(counted '01 01 3C00 0001 0001 01 00')" 'accepted strokes 0 states 1 hold 0'
+
+# ---- Names: a phrase of one stroke for every key, 12 to 119 ----
+
+names=(C C# D D# E F F# G G# A A# B)
+for ((key = 12; key < 120; key++)); do
+  shows "the name of key $key" "$(counted "$(printf '01 01 %02X 00 0001 0001 00 01 0D %02X 00000000 00000000 00000001' "$key" "$key")")" \
+    "stroke 0 key ${names[key % 12]}$((key / 12 - 1)) bell 0 ends 1..1 response 1..1 due 1" \
+    'accepted strokes 1 states 2 hold 1'
+done
+
+# ---- The limit of the input ----
+
+# padded HEX LENGTH: a file of this length, zeros at its end.
+padded() {
+  bytes "$1" >"$folder/in"
+  truncate -s "$2" "$folder/in"
+}
+echo 'input too long' >"$folder/too-long"
+echo 'refused 3 at 50' >"$folder/remain"
+echo 'refused 1 at 0' >"$folder/version"
+
+padded "$(with "$P" 3 0F 4 FB)" 4096
+prints '4,096 bytes, the count right' "$folder/in" "$folder/remain"
+padded '09' 4096
+prints '4,096 bytes, not version 1' "$folder/in" "$folder/version"
+padded "$(with "$P" 3 0F 4 FC)" 4097
+prints '4,097 bytes, the count right' "$folder/in" "$folder/too-long"
+padded '09' 4097
+prints '4,097 bytes, not version 1' "$folder/in" "$folder/too-long"
+padded "$P" 1000000
+prints '1,000,000 bytes' "$folder/in" "$folder/too-long"
+
+# ---- Input that comes in pieces; as above, the exit status of a refusal is free ----
+
+{
+  head -c 20 examples/phrase-p.phrase
+  sleep 0.2
+  tail -c +21 examples/phrase-p.phrase
+} | "$program" >"$folder/out" || true
+compare 'P in two pieces' examples/phrase-p.report "$folder/out"
+{
+  head -c 4096 /dev/zero
+  sleep 0.2
+  head -c 1 /dev/zero
+} | "$program" >"$folder/out" || true
+compare '4,097 bytes in two pieces' "$folder/too-long" "$folder/out"
+
+if [ "$failed" -ne 0 ]; then
+  echo "tests/program.sh: $failed of $checks checks failed"
+  exit 1
+fi
+echo "tests/program.sh: $checks checks passed"
