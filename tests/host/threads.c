@@ -1,0 +1,95 @@
+/*
+ * Makes the four calls of host/phrase.h from several threads at the same time, on phrases with different answers, and holds each answer and text to what
+ * document 01 says. Buffers are the threads' own; only the files are shared, which the calls only read.
+ *
+ * Prints one line for each thread that saw a difference, else a count; exit status 0 when there was none.
+ */
+#define _DEFAULT_SOURCE /* threads */
+
+#include <pthread.h>
+#include <stdio.h>
+#include <string.h>
+
+#include "phrase.h"
+
+enum { THREADS = 8, ROUNDS = 400, WORDS = 64, ROOM = 200 };
+
+struct example {
+    const char *name;
+    uint8_t file[50];
+    size_t size;
+    uint64_t answer;
+    const char *text;
+};
+
+/* P, P with stroke 0 due 6, P with byte 37 = 3E, and a file without m. */
+#define P_TO_DUE                                                                                                                                   \
+    0x01, 0x00, 0x00, 0x00, 0x2D, 0x01, 0x02, 0x3C, 0x00, 0x00, 0x02, 0x00, 0x02, 0x01, 0x3E, 0x0C, 0x00, 0x04, 0x00, 0x04, 0x02, 0x02, 0x0D, 0x3C, \
+        0x00, 0x00, 0x00, 0x00, 0x00, 0x00, 0x00, 0x05, 0x00, 0x00, 0x00
+#define P_FROM_KEY(key) 0x0D, key, 0x00, 0x00, 0x00, 0x00, 0x00, 0x00, 0x00, 0x00, 0x00, 0x00, 0x00, 0x06
+
+static const struct example examples[] = {
+    {"P", {P_TO_DUE, 0x07, P_FROM_KEY(0x4A)}, 50, 0,
+     "stroke 0 key C4 bell 0 ends 2..7 response 2..7 due 7\n"
+     "stroke 1 key D5 bell 1 ends 4..6 response 4..6 due 6\n"
+     "accepted strokes 2 states 4 hold 6\n"},
+    {"P, stroke 0 due 6", {P_TO_DUE, 0x06, P_FROM_KEY(0x4A)}, 50, UINT64_C(14) << 32, "refused 14 stroke 0 ends 6..7\n"},
+    {"row 10", {P_TO_DUE, 0x07, P_FROM_KEY(0x3E)}, 50, (UINT64_C(10) << 32) + 36, "refused 10 at 36\n"},
+    {"no m", {0x01, 0x00, 0x00, 0x00, 0x00}, 5, (UINT64_C(3) << 32) + 5, "refused 3 at 5\n"},
+};
+enum { EXAMPLES = sizeof examples / sizeof *examples };
+
+/* What a thread works on, and how many of its calls differed. */
+struct player {
+    pthread_t thread;
+    const struct example *example;
+    unsigned differences;
+};
+
+static int is_text(const struct example *example, const uint8_t *text, size_t length)
+{
+    return length == strlen(example->text) && memcmp(text, example->text, length) == 0;
+}
+
+static void *play(void *argument)
+{
+    struct player *player = argument;
+    const struct example *example = player->example;
+    uint32_t table[WORDS];
+    uint8_t text[ROOM];
+    int round;
+
+    memset(table, 0xA5, sizeof table);
+    for (round = 0; round < ROUNDS; round++) {
+        player->differences += phrase_check(example->file, example->size) != example->answer;
+        player->differences += phrase_check_with(example->file, example->size, table, WORDS) != example->answer;
+        memset(text, 0, sizeof text);
+        player->differences += !is_text(example, text, phrase_report(example->file, example->size, text, ROOM));
+        memset(text, 0, sizeof text);
+        player->differences += !is_text(example, text, phrase_report_with(example->file, example->size, table, WORDS, text, ROOM));
+    }
+    return NULL;
+}
+
+int main(void)
+{
+    static struct player players[THREADS];
+    int i, failed = 0;
+    for (i = 0; i < THREADS; i++) {
+        players[i].example = &examples[i % EXAMPLES];
+        if (pthread_create(&players[i].thread, NULL, play, &players[i]) != 0) {
+            fprintf(stderr, "threads: a thread could not be started\n");
+            return 2;
+        }
+    }
+    for (i = 0; i < THREADS; i++) {
+        pthread_join(players[i].thread, NULL);
+        if (players[i].differences != 0) {
+            printf("threads: FAILED: %s: %u of %d calls differed\n", players[i].example->name, players[i].differences, 4 * ROUNDS);
+            failed = 1;
+        }
+    }
+    if (!failed)
+        printf("threads: %d checks passed\n", THREADS * ROUNDS * 4);
+    return failed;
+}
