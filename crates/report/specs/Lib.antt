@@ -3,3 +3,4 @@ pub mod Lines
 pub mod Report
 pub mod Room
 pub mod Rows
+pub mod Examples
