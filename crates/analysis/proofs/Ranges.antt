@@ -1,5 +1,5 @@
 -- The observed ranges after a store of one of them. Assumes nothing.
-use Prim.Native.Nat.{ℕ, _+_, _≤_, _<_, min, max}
+use Prim.Native.Nat.{ℕ, _+_, _≤_, _<_}
 use mathlib.Core.Path.{_≡_, sym, ap, _∙_}
 use mathlib.Core.List.{List}
 use native.Mathlib.Nat.{zero-add}
@@ -7,19 +7,12 @@ use native.Mathlib.Decide.{ℕ-discrete}
 use native.Mathlib.Omega.{arith}
 use lib.ListN.{getD, set, length-set}
 use lib.Seq.{getD-set-same, getD-set-other}
-use borrow.Author.Tests.{eq-eqb, ne-eqb}
 use Rattle.model.specs.Limits.{mostJobs}
-use Rattle.model.specs.States.{empty, range}
-use Rattle.model.specs.Exploration.{hull}
+use Rattle.model.specs.States.{empty}
 use Rattle.words.specs.Tabulate.{tabulate}
 use Rattle.words.proofs.Tabulate.{length-tabulate, getD-tabulate, tabulate-is}
-use Rattle.analysis.specs.Observed.{rangeIn, observedAt, observedOf, Observed}
-
-pub widen-first : (e₀ f₀ e f : ℕ) → 1 ≤ f → f₀ ≡ 0 → rangeIn e f ≡ hull (rangeIn e₀ f₀) (range e f)
-widen-first e₀ f₀ e f h z = rw (ne-eqb f 0 (λ w. omega arith), eq-eqb f₀ 0 z)
-
-pub widen-more : (e₀ f₀ e f : ℕ) → (f₀ ≡ 0 → ⊥) → rangeIn (min e₀ e) (max f₀ f) ≡ hull (rangeIn e₀ f₀) (range e f)
-widen-more e₀ f₀ e f z = rw (ne-eqb (max f₀ f) 0 (λ w. z (omega arith)), ne-eqb f₀ 0 z)
+use Rattle.ranges.specs.Ranges.{rangeIn}
+use Rattle.analysis.specs.Observed.{observedAt, observedOf, Observed}
 
 pub observed-at : (k : ℕ) (ws : List ℕ) (i : ℕ) → i < k → getD (observedOf k ws) i empty ≡ observedAt ws i
 unfolding observedOf

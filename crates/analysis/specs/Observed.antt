@@ -1,24 +1,15 @@
--- The observed finish ranges in words: the earliest of every job, then the latest; a latest of 0 where nothing was observed, since an execution takes
--- time. Assumes nothing.
+-- The observed finish ranges in words: the earliest of every job, then the latest. Assumes nothing.
 use Prim.Native.Nat.{ℕ, _+_, _*_, _≤_, _<_}
 use mathlib.Core.Path.{_≡_}
-use mathlib.Core.Bool.{cond}
 use mathlib.Core.List.{List}
-use lib.Dec.{eqb}
 use lib.ListN.{getD, length}
 use Rattle.model.specs.Limits.{mostJobs}
-use Rattle.model.specs.States.{Range, empty, range}
+use Rattle.model.specs.States.{Range}
 use Rattle.words.specs.Tabulate.{tabulate}
-use Rattle.analysis.specs.declared.observed.FinishRange.{FinishRange}
+use Rattle.ranges.specs.Ranges.{rangeIn}
 
 abbrev pub observedWords : ℕ
 observedWords = 2 * mostJobs
-
-abbrev pub rangeIn : ℕ → ℕ → Range
-rangeIn e f = cond (eqb f 0) empty (range e f)
-
-abbrev pub rangeOf : FinishRange → Range
-rangeOf r = rangeIn (r .earliest) (r .latest)
 
 abbrev pub observedAt : List ℕ → ℕ → Range
 observedAt ws i = rangeIn (getD ws i 0) (getD ws (mostJobs + i) 0)

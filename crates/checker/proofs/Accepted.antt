@@ -17,7 +17,8 @@ use Rattle.model.proofs.Bounds.{TimedUpTo, Between, level-bounded}
 use Rattle.model.proofs.Soundness.{all-reported}
 use Rattle.jobs.specs.Rows.{jobsOf, Setting}
 use Rattle.jobs.proofs.Jobs.{length-jobs}
-use Rattle.analysis.specs.Observed.{rangeIn, observedOf, Observed}
+use Rattle.ranges.specs.Ranges.{rangeIn}
+use Rattle.analysis.specs.Observed.{observedOf, Observed}
 use Rattle.analysis.proofs.Ranges.{observed-at}
 use Rattle.checker.specs.Finished.{Finished}
 

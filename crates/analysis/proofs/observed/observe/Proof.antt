@@ -1,11 +1,15 @@
 -- `observe` meets its contract: one range is stored, widened, and the others stay. Assumes nothing.
 use mathlib.Core.Path.{sym, ap, _∙_}
 use native.Mathlib.Omega.{arith}
-use lib.ListN.{set, length-set}
+use Prim.Native.Nat.{_+_}
+use lib.ListN.{getD, set, length-set}
 use denote.Ref.{now}
 use borrow.Author.Needs.{needs}
 use Rattle.model.specs.States.{Range, range}
 use Rattle.model.specs.Exploration.{hull}
+use Rattle.model.specs.Limits.{mostJobs}
+use Rattle.ranges.specs.Ranges.{rangeOf}
+use Rattle.ranges.proofs.Widening.{widened-hull}
 use Rattle.analysis.specs.Observed.{observedOf}
 use Rattle.analysis.proofs.Ranges.{observed-at, observed-set, observed-kept}
 use Rattle.analysis.proofs.observed.observe.Statement.{statement}
@@ -26,8 +30,8 @@ mul-t11 c = search needs
 slice-read-t13 : tie.Need-slice-read-t13
 slice-read-t13 c = search needs
 
-widened-requires : tie.Need-widened-requires
-widened-requires c κs = search needs
+widened-in-place-requires : tie.Need-widened-in-place-requires
+widened-in-place-requires c κs = search needs
 
 mul-seen : tie.Need-mul-seen
 mul-seen c = search needs
@@ -51,10 +55,10 @@ returns : tie.Need-returns
 returns c =
     let a = c .before .before .before .before .args in
     let p = c .before .before .before .before .pre in (
-      observed-set (a .k) (now (a .seen)) (a .i) (c .widened .result .earliest) (c .widened .result .latest) (p .0) (p .1) (p .3)
+      observed-set (a .k) (now (a .seen)) (a .i) (c .widened-in-place .result .earliest) (c .widened-in-place .result .latest) (p .0) (p .1) (p .3)
           ∙ ap (λ (z : Range). set (observedOf (a .k) (now (a .seen))) (a .i) z)
-          (c .widened .ensures ∙ ap (λ (z : Range). hull z (range (a .e) (a .f))) (sym (observed-at (a .k) (now (a .seen)) (a .i) (p .0)))),
-      observed-kept (a .k) (now (a .seen)) (a .i) (c .widened .result .earliest) (c .widened .result .latest) (p .0) (p .1) (p .3),
+          (ap rangeOf (c .widened-in-place .ensures) ∙ widened-hull (record { earliest = getD (now (a .seen)) (a .i) 0; latest = getD (now (a .seen)) (mostJobs + a .i) 0 }) (a .e) (a .f) (p .2) ∙ ap (λ (z : Range). hull z (range (a .e) (a .f))) (sym (observed-at (a .k) (now (a .seen)) (a .i) (p .0)))),
+      observed-kept (a .k) (now (a .seen)) (a .i) (c .widened-in-place .result .earliest) (c .widened-in-place .result .latest) (p .0) (p .1) (p .3),
     )
 
 pub observe-spec : {M : Type 1} → statement M
@@ -66,7 +70,7 @@ observe-spec =
     add-t10
     mul-t11
     slice-read-t13
-    widened-requires
+    widened-in-place-requires
     mul-seen
     slice-write-seen
     add-seen

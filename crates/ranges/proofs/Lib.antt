@@ -1,0 +1,2 @@
+-- Laws of ranges in words.
+pub mod Widening

@@ -1,0 +1,2 @@
+-- Ranges in words.
+pub mod Ranges
