@@ -1,6 +1,7 @@
 //! Times the product's library against this checker on the same phrases; prints markdown tables.
 
 use std::hint::black_box;
+use std::ops::RangeInclusive;
 use std::time::{Duration, Instant};
 
 use reference::check::check;
@@ -16,24 +17,37 @@ const DRIVERS: [u64; 3] = [1, 4, 8];
 const TEXT_BYTES: usize = 32_768;
 
 fn main() {
-    println!("Reading and report, on phrases with one state a level (µs; ratio: library / this)\n");
     println!(
-        "| K | m | reading, library | reading, this | ratio | report, library | report, this | ratio |"
+        "Phrases with one state a level: reading, the text, and a whole report (µs; ratio: library / this)\n"
     );
-    println!("|--:|--:|--:|--:|--:|--:|--:|--:|");
+    println!(
+        "| K | m | reading, library | this | ratio | text, library | this | ratio | report, library | this | ratio |"
+    );
+    println!("|--:|--:|--:|--:|--:|--:|--:|--:|--:|--:|--:|");
     each(|strokes, drivers| print_reading_and_report(&clockwork(strokes, drivers)));
 
     println!("\nAnalysis, in a table just long enough and in one of half that length\n");
+    print_analysis_head();
+    each(|strokes, drivers| {
+        let (file, words) = crowded(strokes, drivers, 100..=400);
+        print_analysis(&file, words);
+        print_analysis(&file, words / 2);
+    });
+
+    println!("\nAnalysis, with more and more states in a level\n");
+    print_analysis_head();
+    for states in [10, 40, 160, 640, 2560] {
+        let (file, words) = crowded(32, 4, states..=2 * states);
+        print_analysis(&file, words);
+    }
+}
+
+fn print_analysis_head() {
     println!(
         "| K | m | words | answer | states | edges | library ms | this ms | ratio \
          | library ns/edge | this ns/edge | library states/s | this states/s |"
     );
     println!("|--:|--:|--:|:--|--:|--:|--:|--:|--:|--:|--:|--:|--:|");
-    each(|strokes, drivers| {
-        let (file, words) = crowded(strokes, drivers);
-        print_analysis(&file, words);
-        print_analysis(&file, words / 2);
-    });
 }
 
 fn each(mut print: impl FnMut(u64, u64)) {
@@ -60,9 +74,8 @@ fn clockwork(strokes: u64, drivers: u64) -> Vec<u8> {
     draft(&mut Generator::new(SEED), &shape).bytes()
 }
 
-/// A phrase accepted with a hundred states or more in some level, and the fewest words for it.
-fn crowded(strokes: u64, drivers: u64) -> (Vec<u8>, usize) {
-    const STATES: std::ops::RangeInclusive<u64> = 100..=400;
+/// A phrase accepted with so many states in some level, or the nearest that is found, and the fewest words for it.
+fn crowded(strokes: u64, drivers: u64, states: RangeInclusive<u64>) -> (Vec<u8>, usize) {
     const TRIES: u32 = 2_000;
     let mut random = Generator::of_case(SEED, strokes * 100 + drivers);
     let mut best: Option<(Vec<u8>, usize)> = None;
@@ -80,13 +93,13 @@ fn crowded(strokes: u64, drivers: u64) -> (Vec<u8>, usize) {
         };
         let file = draft(&mut random, &shape).bytes();
         let pair = pair_words(&file);
-        let Some(words) = accepted_words(&file, pair * *STATES.end() as usize) else {
+        let Some(words) = accepted_words(&file, pair * *states.end() as usize) else {
             continue;
         };
         if best.as_ref().is_none_or(|(_, most)| words > *most) {
             best = Some((file, words));
         }
-        if STATES.contains(&((words / pair) as u64)) {
+        if states.contains(&((words / pair) as u64)) {
             break;
         }
     }
@@ -178,7 +191,7 @@ fn print_reading_and_report(file: &[u8]) {
     agree(file, words);
     let (library, own) = times(file, words);
     println!(
-        "| {} | {} | {:.2} | {:.2} | {:.2} | {:.2} | {:.2} | {:.2} |",
+        "| {} | {} | {:.2} | {:.2} | {:.2} | {:.2} | {:.2} | {:.2} | {:.2} | {:.2} | {:.2} |",
         phrase.strokes.len(),
         phrase.drivers,
         library.reading / 1e3,
@@ -186,7 +199,10 @@ fn print_reading_and_report(file: &[u8]) {
         library.reading / own.reading,
         library.text() / 1e3,
         own.text() / 1e3,
-        library.text() / own.text()
+        library.text() / own.text(),
+        library.report / 1e3,
+        own.report / 1e3,
+        library.report / own.report
     );
 }
 
