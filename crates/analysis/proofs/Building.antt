@@ -23,16 +23,16 @@ use Rattle.analysis.specs.Progress.{progressOf, Half, HalfAt, Leaves}
 use Rattle.analysis.specs.Outcomes.{Halves}
 use Rattle.analysis.specs.declared.Step.{Step}
 use Rattle.analysis.specs.declared.Step.the-variants.{Going, Full, Late}
-use Rattle.analysis.proofs.Following.{Stopped, stopped}
+use Rattle.analysis.proofs.Following.{Stopped, jobs-stopped}
 use Rattle.analysis.proofs.Halves.{put-put, source-kept}
 
 -- ---- an exploration that has stopped stays
 
 module _ (js : List Job) (cap : ℕ) where
   states-stopped : (l : List State) (x : Exploration) → Stopped x → tryStates js cap l x ≡ x
-  unfolding tryStates tryJobs
+  unfolding tryStates
   states-stopped [] x h = refl
-  states-stopped (σ ∷ σs) x h = ap (tryStates js cap σs) (sym (stopped js cap σ x x 0 (length js) (omega arith) h refl)) ∙ states-stopped σs x h
+  states-stopped (σ ∷ σs) x h = ap (tryStates js cap σs) (jobs-stopped js cap σ (length js) x h) ∙ states-stopped σs x h
 
   -- ---- states by their numbers
 

@@ -1,12 +1,12 @@
 -- An edge followed: what the definition makes of it, by the moments that the code has. Assumes nothing.
-use Prim.Native.Nat.{ℕ, _+_, _≤_, _<_}
+use Prim.Native.Nat.{ℕ, zero, suc, _+_, _≤_, _<_}
 use mathlib.Core.Path.{_≡_, refl, sym, ap, _∙_, subst}
 use mathlib.Core.Bool.{Bool, true, false, cond, _&&_}
-use mathlib.Core.List.{List}
+use mathlib.Core.List.{List, [], _∷_, foldl, foldl-append}
 use native.Mathlib.Omega.{arith}
-use native.Mathlib.Numerals.{add-one}
 use lib.Dec.{leb, ltb}
-use lib.ListN.{length}
+use lib.ListN.{getD, length, take, drop, take-append-drop}
+use lib.Seq.{take-all}
 use borrow.Author.Tests.{lt-ltb, le-ltb}
 use Rattle.model.specs.Limits.{latestTime, longestExecution}
 use Rattle.model.specs.Jobs.{Job, job}
@@ -14,14 +14,14 @@ use Rattle.model.specs.States.{Range, range, State, started}
 use Rattle.model.specs.Edges.{candidate, isBelow, earliestStart, workConservingBound, higherPriorityBound, eligible, latestStart, earliestFinish, latestFinish, successor}
 use Rattle.model.specs.Exploration.{Exploration, going, full, miss, limited, stored, observed, addEdge, tryJob, tryJobs}
 use Rattle.model.proofs.Booleans.{and-left}
-use Rattle.model.proofs.Coverage.{climb}
 use Rattle.model.proofs.Starts.{candidate-out}
 use Rattle.model.proofs.Bounds.{TimedUpTo, Bounded, earliest-start-up-to, latest-start-up-to, successor-bounded}
 use Rattle.jobs.specs.Rows.{jobsOf, Setting, word, leastExecutionAt, mostExecutionAt}
 use Rattle.jobs.proofs.Jobs.{length-jobs, field-of}
 use Rattle.slots.specs.Writing.{withStart}
 use Rattle.edges.specs.declared.Edge.the-variants.{NotEligible, Starts}
-use Rattle.edges.specs.Edges.{edgeOf}
+use Rattle.edges.specs.Edges.{edgeOf, candidates}
+use Rattle.edges.proofs.Listing.{fold-listed, fold-turn}
 use Rattle.analysis.specs.Progress.{Follows}
 
 -- ---- an edge that was found
@@ -103,7 +103,7 @@ module _ (js : List Job) (σ : State) (i s e f : ℕ) (follows : Follows js σ i
         rw test
         (ap (λ τ. make τ e f) (sym successor-is) ∙ ap (λ x. make (successor js σ i) x f) (follows .earliest) ∙ ap (λ y. make (successor js σ i) (earliestFinish js σ i) y) (follows .latest))
 
--- ---- the jobs of a state in turn
+-- ---- the candidates of a state in turn
 
 -- the exploration has stopped
 abbrev pub Stopped : Exploration → Type 0
@@ -112,9 +112,19 @@ Stopped (full n) = Unit {0}
 Stopped (miss i e f) = Unit {0}
 
 module _ (js : List Job) (cap : ℕ) (σ : State) where
-  pub one-more : (x : Exploration) (i : ℕ) → tryJobs js cap σ (i + 1) x ≡ tryJob js cap σ i (tryJobs js cap σ i x)
-  unfolding tryJobs
-  one-more x i = ap (λ n. tryJobs js cap σ n x) (add-one i)
+  -- the listed jobs, from the first on
+  abbrev pub tryListed : List ℕ → Exploration → Exploration
+  tryListed l x = foldl (λ y i. tryJob js cap σ i y) x l
+
+  pub one-more : (x : Exploration) (l : List ℕ) (t : ℕ) → t < length l → tryListed (take (t + 1) l) x ≡ tryJob js cap σ (getD l t 0) (tryListed (take t l) x)
+  one-more x l t h = fold-turn (λ y i. tryJob js cap σ i y) x l t h
+
+  -- a job that is no candidate is not eligible
+  left-out : (i : ℕ) → candidate js σ i ≡ false → (x : Exploration) → tryJob js cap σ i x ≡ x
+  unfolding tryJob eligible
+  left-out i e (going l seen c) = rw e
+  left-out i e (full n) = refl
+  left-out i e (miss j e′ f) = refl
 
   stays : (x : Exploration) → Stopped x → (i : ℕ) → tryJob js cap σ i x ≡ x
   unfolding tryJob
@@ -122,7 +132,28 @@ module _ (js : List Job) (cap : ℕ) (σ : State) where
   stays (full n) h i = refl
   stays (miss j e f) h i = refl
 
-  -- once stopped, no later job changes it
-  pub stopped : (x y : Exploration) (i n : ℕ) → i ≤ n → Stopped y → y ≡ tryJobs js cap σ i x → y ≡ tryJobs js cap σ n x
+  pub jobs-stopped : (n : ℕ) (x : Exploration) → Stopped x → tryJobs js cap σ n x ≡ x
   unfolding tryJobs
-  stopped x y i n h st = climb (λ j. y ≡ tryJobs js cap σ j x) (λ j e. sym (stays y st j) ∙ ap (tryJob js cap σ j) e) i n h
+  jobs-stopped zero x h = refl
+  jobs-stopped (suc n) x h = ap (tryJob js cap σ n) (jobs-stopped n x h) ∙ stays x h n
+
+  listed-stopped : (l : List ℕ) (x : Exploration) → Stopped x → tryListed l x ≡ x
+  listed-stopped [] x h = refl
+  listed-stopped (i ∷ l) x h = ap (tryListed l) (stays x h i) ∙ listed-stopped l x h
+
+  module _ (k : ℕ) (list : List ℕ) (listed : list ≡ candidates js σ k) (x : Exploration) where
+    -- with all candidates, every job has been tried
+    every-candidate : tryListed list x ≡ tryJobs js cap σ k x
+    unfolding tryJobs
+    every-candidate =
+        rw listed
+        (fold-listed (candidate js σ) (λ y i. tryJob js cap σ i y) (λ j. tryJobs js cap σ j x) (λ j e. refl) (λ j e. left-out j e (tryJobs js cap σ j x)) k)
+
+    pub all-tried : (t : ℕ) → length list ≤ t → tryListed (take t list) x ≡ tryJobs js cap σ k x
+    all-tried t h = ap (λ l. tryListed l x) (take-all t list h) ∙ every-candidate
+
+    -- once stopped, no later candidate changes it
+    pub stopped : (y : Exploration) (t : ℕ) → Stopped y → y ≡ tryListed (take t list) x → y ≡ tryJobs js cap σ k x
+    stopped y t st e =
+        sym (listed-stopped (drop t list) y st) ∙ ap (tryListed (drop t list)) e
+        ∙ sym (foldl-append (λ z i. tryJob js cap σ i z) x (take t list) (drop t list)) ∙ ap (λ l. tryListed l x) (take-append-drop t list) ∙ every-candidate

@@ -1,12 +1,13 @@
 // The edges of one state, and what each leaves in the half of the next level.
 ghost use mathlib.Core.Path.{_≡_};
+ghost use mathlib.Core.Bool.{true};
 ghost use Prim.Native.Nat.{_≤_, _<_};
 ghost use lib.ListN.{length};
-ghost use Rattle.model.specs.Edges.{workConservingBound};
+ghost use Rattle.model.specs.Edges.{candidate, workConservingBound};
 ghost use Rattle.model.specs.Exploration.{going, addEdge, tryJob, tryJobs, stateWords};
 ghost use Rattle.jobs.specs.Rows.{jobsOf, Setting};
 ghost use Rattle.states.specs.Slots.{stateOf, statesOf, Sound};
-ghost use Rattle.edges.specs.Edges.{edgeOf, Marked};
+ghost use Rattle.edges.specs.Edges.{edgeOf, candidates};
 ghost use Rattle.edges.specs.declared.Edge.the-variants.{Starts};
 ghost use Rattle.analysis.specs.Observed.{observedOf, Observed};
 ghost use Rattle.analysis.specs.Progress.{Half, Leaves, Explores, Follows};
@@ -15,7 +16,7 @@ use crate::observed::observe;
 use crate::successor::store_successor;
 use edges::Edge;
 use edges::edge_of;
-use edges::mark_candidates;
+use edges::list_candidates;
 use edges::work_conserving_bound;
 use jobs::deadline;
 use jobs::least_execution;
@@ -74,7 +75,7 @@ pub fn add_edge(
     follow(half, seen, n, cap, rows, k, cur, m, i, s, e, f)
 }
 
-// Job i of one state: an edge where it is eligible.
+// Candidate i of one state: an edge where it is eligible.
 pub fn try_job(
     half: &mut [u32],
     seen: &mut [u32],
@@ -84,24 +85,25 @@ pub fn try_job(
     k: usize,
     cur: &[u32],
     m: usize,
-    marks: &[u32],
+    list: &[u32],
     bound: u32,
     i: usize,
 ) -> Step
     requires { ⌜ (i < k) × Explores (now rows) k m cap (now cur) (now half) n (now seen)
-        × Marked (jobsOf (now rows) k) (stateOf m k (now cur)) k (now marks)
+        × (now list ≡ candidates (jobsOf (now rows) k) (stateOf m k (now cur)) k)
+        × (candidate (jobsOf (now rows) k) (stateOf m k (now cur)) i ≡ true)
         × (bound ≡ workConservingBound (jobsOf (now rows) k) (stateOf m k (now cur))) ⌝ }
     ensures { λ r. ⌜ Leaves (jobsOf (now (rows .entry)) k) m k cap
         (λ c. tryJob (jobsOf (now (rows .entry)) k) cap (stateOf m k (now (cur .entry))) i
         (going (statesOf m k (now (half .entry)) n) (observedOf k (now (seen .entry))) c)) r (now (half .exit)) (now (seen .exit)) ⌝ }
 {
-    let Edge::Starts(s, t) = edge_of(rows, k, cur, m, marks, bound, i) else {
+    let Edge::Starts(s, t) = edge_of(rows, k, cur, m, list, bound, i) else {
         return Step::Going(n);
     };
     add_edge(half, seen, n, cap, rows, k, cur, m, i, s, t)
 }
 
-// Every job of one state, by rising number.
+// Every candidate of one state, by rising number. The other jobs have no edge.
 pub fn try_jobs(
     half: &mut [u32],
     seen: &mut [u32],
@@ -111,19 +113,21 @@ pub fn try_jobs(
     k: usize,
     cur: &[u32],
     m: usize,
-    marks: &[u32],
+    list: &[u32],
     bound: u32,
 ) -> Step
-    requires { ⌜ Explores (now rows) k m cap (now cur) (now half) n (now seen) × Marked (jobsOf (now rows) k) (stateOf m k (now cur)) k (now marks)
+    requires { ⌜ Explores (now rows) k m cap (now cur) (now half) n (now seen)
+        × (now list ≡ candidates (jobsOf (now rows) k) (stateOf m k (now cur)) k)
         × (bound ≡ workConservingBound (jobsOf (now rows) k) (stateOf m k (now cur))) ⌝ }
     ensures { λ r. ⌜ Leaves (jobsOf (now (rows .entry)) k) m k cap
         (λ c. tryJobs (jobsOf (now (rows .entry)) k) cap (stateOf m k (now (cur .entry))) k
         (going (statesOf m k (now (half .entry)) n) (observedOf k (now (seen .entry))) c)) r (now (half .exit)) (now (seen .exit)) ⌝ }
 {
     let mut stored = n;
-    let mut i = 0;
-    while i < k {
-        match try_job(half, seen, stored, cap, rows, k, cur, m, marks, bound, i) {
+    let mut t = 0;
+    while t < list.len() {
+        let i = list[t] as usize;
+        match try_job(half, seen, stored, cap, rows, k, cur, m, list, bound, i) {
             Step::Going(x) => {
                 stored = x;
             }
@@ -134,7 +138,7 @@ pub fn try_jobs(
                 return Step::Late(j, e, f);
             }
         }
-        i += 1;
+        t += 1;
     }
     Step::Going(stored)
 }
@@ -156,8 +160,8 @@ pub fn try_state(
         (λ c. tryJobs (jobsOf (now (rows .entry)) k) cap (stateOf m k (now (cur .entry))) k
         (going (statesOf m k (now (half .entry)) n) (observedOf k (now (seen .entry))) c)) r (now (half .exit)) (now (seen .exit)) ⌝ }
 {
-    let mut marks = [0u32; 64];
-    mark_candidates(rows, k, cur, m, &mut marks);
-    let bound = work_conserving_bound(rows, k, cur, m, &marks);
-    try_jobs(half, seen, n, cap, rows, k, cur, m, &marks, bound)
+    let mut list = [0u32; 64];
+    let listed = list_candidates(rows, k, cur, m, &mut list);
+    let bound = work_conserving_bound(rows, k, cur, m, &list[..listed]);
+    try_jobs(half, seen, n, cap, rows, k, cur, m, &list[..listed], bound)
 }

@@ -1,51 +1,43 @@
--- Marks, the bounds of a state and the cases of an edge, by the words that the code computes. Assumes nothing.
-use Prim.Native.Nat.{ℕ, _+_, _-_, _<_, _≤_, min, max}
+-- The bounds of a state and the cases of an edge, by the words that the code computes. Assumes nothing.
+use Prim.Native.Nat.{ℕ, _-_, _<_, _≤_, min, max}
 use mathlib.Core.Path.{_≡_, refl, sym, ap, _∙_}
 use mathlib.Core.Bool.{Bool, true, false, _&&_}
 use mathlib.Core.List.{List, [], _∷_}
 use native.Mathlib.Nat.{add-zero}
 use native.Mathlib.Omega.{arith}
-use lib.Dec.{ltb, eqb}
-use lib.ListN.{getD, length, set, take, drop}
-use lib.Seq.{getD-set-same, getD-set-other, getD-take, getD-drop}
-use borrow.Author.Count.{below-more}
-use borrow.Author.Tests.{lt-ltb, le-ltb, le-leb, lt-leb, eq-eqb, ne-eqb}
+use lib.Dec.{ltb}
+use lib.ListN.{getD, length, take, drop}
+use lib.Seq.{getD-take, getD-drop}
+use borrow.Author.Tests.{lt-ltb, le-ltb, le-leb, lt-leb}
 use Rattle.model.specs.Limits.{latestTime}
-use Rattle.model.specs.Folds.{ind, Limit, infinite, finite}
+use Rattle.model.specs.Folds.{all, Limit, infinite, finite}
 use Rattle.model.specs.Jobs.{Job, before}
 use Rattle.model.specs.States.{State, first}
-use Rattle.model.specs.Edges.{orZero, isBelow, lastBelow, candidate, earliestStart, workConservingBound, higherPriorityBound, eligible, latestStart}
+use Rattle.model.specs.Edges.{orZero, isBelow, lastBelow, candidate, certainlyReady, certainlyReadyBeside, earliestStart, workConservingBound, higherPriorityBound, eligible, latestStart}
 use Rattle.model.proofs.Bounds.{TimedUpTo, Bounded, bound-up-to}
 use Rattle.states.specs.Slots.{possiblyAt, certainlyAt, stateOf}
-use Rattle.edges.specs.Edges.{Marked, noLimit, limitWord, firstCertainlyReady, higherCandidate, edgeOf}
+use Rattle.edges.specs.Edges.{candidates, noLimit, limitWord, firstCertainlyReady, edgeOf}
 use Rattle.edges.specs.declared.Edge.the-variants.{NotEligible, Starts}
+use Rattle.edges.proofs.Folds.{smallestIn, smallest-listed}
 
--- ---- marks
+-- ---- the smallest over the listed candidates
 
-pub mark-next : (p : ℕ → Bool) (l : List ℕ) (j x : ℕ) (b : Bool) → j < length l
-    → ((h : ℕ) → h < j → getD l h 0 ≡ ind (p h)) → x ≡ ind b → b ≡ p j
-    → (h : ℕ) → h < j + 1 → getD (set l j x) h 0 ≡ ind (p h)
-mark-next p l j x b i f e q =
-    below-more (λ (h : ℕ). getD (set l j x) h 0 ≡ ind (p h)) j (λ h g. getD-set-other l j h x 0 (λ (d : h ≡ j). omega (arith, d, g)) ∙ f h g)
-    (getD-set-same l j x 0 i ∙ e ∙ ap ind q)
+both-true : (b : Bool) → b ≡ (b && true)
+both-true true = refl
+both-true false = refl
 
-module _ (js : List Job) (σ : State) (k : ℕ) (marks : List ℕ) (g : Marked js σ k marks) (j : ℕ) (h : j < k) where
-  test : eqb (getD marks j 0) 1 ≡ candidate js σ j
-  test = go (candidate js σ j) (g .mark j h)
-    where
-      go : (b : Bool) → getD marks j 0 ≡ ind b → eqb (getD marks j 0) 1 ≡ b
-      go true e = rw e
-      go false e = rw e
+module _ (js : List Job) (σ : State) (k : ℕ) (list : List ℕ) (listed : list ≡ candidates js σ k) (every-job : k ≡ length js) where
+  pub first-listed : smallestIn all (certainlyReady js σ) list ≡ firstCertainlyReady js σ
+  unfolding firstCertainlyReady
+  first-listed =
+      rw (listed, ← every-job)
+      (smallest-listed (candidate js σ) all (candidate js σ) (certainlyReady js σ) (λ j. both-true (candidate js σ j)) k)
 
-  pub marked : getD marks j 0 ≡ 1 → candidate js σ j ≡ true
-  marked e = sym test ∙ eq-eqb (getD marks j 0) 1 e
-
-  pub not-marked : (getD marks j 0 ≡ 1 → ⊥) → candidate js σ j ≡ false
-  not-marked d = sym test ∙ ne-eqb (getD marks j 0) 1 d
-
-  pub higher-marked : (i : ℕ) (r : Bool) → r ≡ (eqb (getD marks j 0) 1 && before js j i) → higherCandidate js σ i j ≡ r
-  unfolding higherCandidate
-  higher-marked i r e = sym (e ∙ rw test)
+  pub higher-listed : (i : ℕ) → smallestIn (λ j. before js j i) (certainlyReadyBeside js σ i) list ≡ higherPriorityBound js σ i
+  unfolding higherPriorityBound
+  higher-listed i =
+      rw (listed, ← every-job)
+      (smallest-listed (candidate js σ) (λ j. before js j i) (λ j. candidate js σ j && before js j i) (certainlyReadyBeside js σ i) (λ j. refl) k)
 
 -- ---- the first availabilities
 
@@ -94,10 +86,6 @@ never true = refl
 never false = refl
 
 module _ (js : List Job) (σ : State) (i : ℕ) where
-  pub no-candidate : candidate js σ i ≡ false → NotEligible ≡ edgeOf js σ i
-  unfolding edgeOf eligible
-  no-candidate e = rw e
-
   module _ (start bound : ℕ) (s : start ≡ earliestStart js σ i) (b : bound ≡ workConservingBound js σ) where
     pub past-the-bound : bound < start → NotEligible ≡ edgeOf js σ i
     unfolding edgeOf eligible

@@ -1,15 +1,16 @@
--- One turn, and the end, of a loop over a list from its start or over the numbers below a bound. Assumes nothing.
+-- One turn, and the end, of a loop over a list from its start. Assumes nothing.
 use Prim.Native.Nat.{ℕ, _+_, _<_, _≤_, min, max}
 use mathlib.Core.Path.{_≡_, ap, _∙_}
 use mathlib.Core.Bool.{Bool, true, false, _&&_, cond}
-use mathlib.Core.List.{List}
+use mathlib.Core.List.{List, foldl}
 use native.Mathlib.Numerals.{add-one}
 use native.Mathlib.Omega.{arith}
-use lib.ListN.{getD, length, drop, drop-of-length-le}
+use lib.ListN.{getD, length, take, drop, drop-of-length-le}
 use lib.Seq.{drop-cons}
 use Rattle.model.specs.Folds.{every, largest, Limit, infinite, finite, smallest}
 use Rattle.model.specs.Folds as folds
-use Rattle.edges.specs.Edges.{noLimit, limitWord}
+use Rattle.edges.specs.Edges.{listBelow, noLimit, limitWord}
+use Rattle.edges.proofs.Listing.{fold-listed, fold-turn}
 
 -- ---- every: what is left to test, from index j on, decides
 
@@ -39,17 +40,26 @@ module _ (p : ℕ → Bool) (f : ℕ → ℕ) (l : List ℕ) (j r t : ℕ) (left
   unfolding largest
   largest-goes-on h = omega (arith, left, ap (largest p f) (drop-cons l j 0 h), ap (λ (n : ℕ). largest p f (drop n l)) (add-one j))
 
--- ---- the smallest: r is that of the numbers below j
+-- ---- the smallest of those in a list that pass: r is that of the elements before index t
 
-module _ (p : ℕ → Bool) (f : ℕ → ℕ) (j r : ℕ) (so-far : r ≡ limitWord (smallest p f j)) where
-  pub smallest-with : p j ≡ true → f j ≤ noLimit → min r (f j) ≡ limitWord (smallest p f (j + 1))
-  unfolding smallest
-  smallest-with e h = rw (add-one, e, so-far) (go (smallest p f j))
+abbrev pub smallestIn : (ℕ → Bool) → (ℕ → ℕ) → List ℕ → Limit
+smallestIn q f = foldl (λ x j. cond (q j) (folds.smaller (f j) x) x) infinite
+
+module _ (q : ℕ → Bool) (f : ℕ → ℕ) (l : List ℕ) (t r : ℕ) (h : t < length l) (so-far : r ≡ limitWord (smallestIn q f (take t l))) where
+  turned : smallestIn q f (take (t + 1) l) ≡ cond (q (getD l t 0)) (folds.smaller (f (getD l t 0)) (smallestIn q f (take t l))) (smallestIn q f (take t l))
+  turned = fold-turn (λ x j. cond (q j) (folds.smaller (f j) x) x) infinite l t h
+
+  pub smallest-with : q (getD l t 0) ≡ true → f (getD l t 0) ≤ noLimit → min r (f (getD l t 0)) ≡ limitWord (smallestIn q f (take (t + 1) l))
+  smallest-with e b = rw (turned, e, so-far) (go (smallestIn q f (take t l)))
     where
-      go : (x : Limit) → min (limitWord x) (f j) ≡ limitWord (folds.smaller (f j) x)
+      go : (x : Limit) → min (limitWord x) (f (getD l t 0)) ≡ limitWord (folds.smaller (f (getD l t 0)) x)
       go infinite = omega arith
       go (finite y) = omega arith
 
-  pub smallest-without : p j ≡ false → r ≡ limitWord (smallest p f (j + 1))
-  unfolding smallest
-  smallest-without e = rw (add-one, e) so-far
+  pub smallest-without : q (getD l t 0) ≡ false → r ≡ limitWord (smallestIn q f (take (t + 1) l))
+  smallest-without e = rw (turned, e) so-far
+
+-- over the numbers that pass p, in a list, it is the smallest over the numbers that pass both
+pub smallest-listed : (p q b : ℕ → Bool) (f : ℕ → ℕ) → ((j : ℕ) → b j ≡ (p j && q j)) → (n : ℕ) → smallestIn q f (listBelow p n) ≡ smallest b f n
+unfolding smallest
+smallest-listed p q b f both = fold-listed p (λ x j. cond (q j) (folds.smaller (f j) x) x) (smallest b f) (λ j e. rw (both j, e)) (λ j e. rw (both j, e))

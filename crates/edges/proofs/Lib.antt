@@ -1,3 +1,4 @@
 -- Laws of edges.
+pub mod Listing
 pub mod Folds
 pub mod Edges

@@ -1,12 +1,12 @@
 -- What is given where the edges of a state are asked for, and what is answered. Assumes nothing.
-use Prim.Native.Nat.{ℕ, _≤_, _<_}
+use Prim.Native.Nat.{ℕ, zero, suc, _≤_}
 use mathlib.Core.Path.{_≡_}
-use mathlib.Core.Bool.{Bool, _&&_, cond}
-use mathlib.Core.List.{List}
-use lib.ListN.{getD, length}
+use mathlib.Core.Bool.{Bool, cond}
+use mathlib.Core.List.{List, [], _∷_, _++_}
+use lib.ListN.{length}
 use Rattle.model.specs.Limits.{latestTime}
-use Rattle.model.specs.Folds.{ind, Limit, infinite, finite, smallest}
-use Rattle.model.specs.Jobs.{Job, before}
+use Rattle.model.specs.Folds.{Limit, infinite, finite, smallest}
+use Rattle.model.specs.Jobs.{Job}
 use Rattle.model.specs.States.{State}
 use Rattle.model.specs.Edges.{candidate, certainlyReady, earliestStart, eligible, latestStart}
 use Rattle.model.specs.Exploration.{stateWords}
@@ -21,16 +21,20 @@ pub record Readable (rows : List ℕ) (k : ℕ) (s : List ℕ) (m : ℕ) : Type 
   pub setting : Setting rows k m
   pub words : stateWords m k ≤ length s
 
--- the first k words say which jobs are candidates
-pub record Marked (js : List Job) (σ : State) (k : ℕ) (marks : List ℕ) : Type 0 where
-  pub long : k ≤ length marks
-  pub mark : (j : ℕ) → j < k → getD marks j 0 ≡ ind (candidate js σ j)
+-- the numbers below n that pass, rising
+unfoldable pub listBelow : (ℕ → Bool) → ℕ → List ℕ
+listBelow p zero = []
+listBelow p (suc n) = cond (p n) (listBelow p n ++ (n ∷ [])) (listBelow p n)
 
--- a state whose edges are asked for: its times are bounded, and its candidates marked
-pub record Prepared (rows : List ℕ) (k : ℕ) (s : List ℕ) (m : ℕ) (marks : List ℕ) : Type 0 where
+-- the candidates among k jobs, by rising number
+abbrev pub candidates : List Job → State → ℕ → List ℕ
+candidates js σ k = listBelow (candidate js σ) k
+
+-- a state whose edges are asked for: its times are bounded, and its candidates listed
+pub record Prepared (rows : List ℕ) (k : ℕ) (s : List ℕ) (m : ℕ) (list : List ℕ) : Type 0 where
   pub readable : Readable rows k s m
   pub bounded : Bounded (jobsOf rows k) latestTime (stateOf m k s)
-  pub marked : Marked (jobsOf rows k) (stateOf m k s) k marks
+  pub listed : list ≡ candidates (jobsOf rows k) (stateOf m k s) k
 
 -- a limit in a word: no time is as large as the word for infinity
 abbrev pub noLimit : ℕ
@@ -44,11 +48,6 @@ limitWord (finite x) = x
 unfoldable pub firstCertainlyReady : List Job → State → Limit
 unfolding smallest candidate certainlyReady
 firstCertainlyReady js σ = smallest (candidate js σ) (certainlyReady js σ) (length js)
-
--- job j is a candidate that goes before job i
-unfoldable pub higherCandidate : List Job → State → ℕ → ℕ → Bool
-unfolding candidate before
-higherCandidate js σ i j = candidate js σ j && before js j i
 
 -- whether job i is eligible, and then its earliest and latest start
 unfoldable pub edgeOf : List Job → State → ℕ → Edge

@@ -1,16 +1,15 @@
 // Which jobs may start next in a state, and when. There are k jobs, in `rows`, and m cores; the words `s` are the state.
 ghost use mathlib.Core.Path.{_≡_};
 ghost use Prim.Native.Nat.{_<_, _≤_};
-ghost use mathlib.Core.Bool.{not, _&&_, cond};
-ghost use lib.Dec.{eqb};
-ghost use lib.ListN.{getD, length};
-ghost use Rattle.model.specs.Folds.{ind, every, member};
-ghost use Rattle.model.specs.Jobs.{predecessors, before};
+ghost use mathlib.Core.Bool.{true, not, cond};
+ghost use lib.ListN.{length, take};
+ghost use Rattle.model.specs.Folds.{every, member};
+ghost use Rattle.model.specs.Jobs.{predecessors};
 ghost use Rattle.model.specs.States.{latest, finishOf, started};
 ghost use Rattle.model.specs.Edges.{candidate, possiblyReady, certainlyReady, earliestStart, workConservingBound, certainlyReadyBeside, higherPriorityBound};
-ghost use Rattle.jobs.specs.Rows.{Rows, jobsOf};
+ghost use Rattle.jobs.specs.Rows.{jobsOf};
 ghost use Rattle.states.specs.Slots.{stateOf};
-ghost use Rattle.edges.specs.Edges.{Readable, Marked, Prepared, limitWord, firstCertainlyReady, edgeOf};
+ghost use Rattle.edges.specs.Edges.{Readable, candidates, Prepared, limitWord, firstCertainlyReady, edgeOf};
 use jobs::earliest_release;
 use jobs::goes_before;
 use jobs::is_predecessor;
@@ -58,25 +57,20 @@ fn is_candidate(rows: &[u32], k: usize, s: &[u32], m: usize, i: usize) -> bool
     predecessors_started(rows, k, s, m, i)
 }
 
-fn mark(b: bool) -> u32
-    ensures { λ r. ⌜ r ≡ ind b ⌝ }
+// Lists the candidates by rising number, and answers how many there are. This is done once for each state: all of its edges ask for candidates.
+pub fn list_candidates(rows: &[u32], k: usize, s: &[u32], m: usize, list: &mut [u32]) -> usize
+    requires { ⌜ Readable (now rows) k (now s) m × (k ≤ length (now list)) ⌝ }
+    ensures { λ r. ⌜ (r ≤ length (now (list .exit)))
+        × (take r (now (list .exit)) ≡ candidates (jobsOf (now (rows .entry)) k) (stateOf m k (now (s .entry))) k) ⌝ }
 {
-    if b {
-        return 1;
-    }
-    0
-}
-
-// Marks the candidates with 1 and the other jobs with 0. This is done once for each state: all of its edges ask for candidates.
-pub fn mark_candidates(rows: &[u32], k: usize, s: &[u32], m: usize, marks: &mut [u32])
-    requires { ⌜ Readable (now rows) k (now s) m × (k ≤ length (now marks)) ⌝ }
-    ensures { λ _. ⌜ Marked (jobsOf (now (rows .entry)) k) (stateOf m k (now (s .entry))) k (now (marks .exit)) ⌝ }
-{
+    let mut n = 0;
     let mut j = 0;
     while j < k {
-        marks[j] = mark(is_candidate(rows, k, s, m, j));
+        list[n] = j as u32;
+        n += is_candidate(rows, k, s, m, j) as usize;
         j += 1;
     }
+    n
 }
 
 fn possibly_ready(rows: &[u32], k: usize, s: &[u32], m: usize, i: usize) -> u32
@@ -137,26 +131,24 @@ fn certainly_ready_beside(rows: &[u32], k: usize, s: &[u32], m: usize, i: usize,
 }
 
 // From when on some candidate is certainly ready.
-fn first_certainly_ready(rows: &[u32], k: usize, s: &[u32], m: usize, marks: &[u32]) -> u32
-    requires { ⌜ Prepared (now rows) k (now s) m (now marks) ⌝ }
+fn first_certainly_ready(rows: &[u32], k: usize, s: &[u32], m: usize, list: &[u32]) -> u32
+    requires { ⌜ Prepared (now rows) k (now s) m (now list) ⌝ }
     ensures { λ r. ⌜ r ≡ limitWord (firstCertainlyReady (jobsOf (now (rows .entry)) k) (stateOf m k (now (s .entry)))) ⌝ }
 {
     let mut first = NO_LIMIT;
-    let mut j = 0;
-    while j < k {
-        if marks[j] == 1 {
-            first = smaller(first, certainly_ready(rows, k, s, m, j));
-        }
-        j += 1;
+    let mut t = 0;
+    while t < list.len() {
+        first = smaller(first, certainly_ready(rows, k, s, m, list[t] as usize));
+        t += 1;
     }
     first
 }
 
-pub fn work_conserving_bound(rows: &[u32], k: usize, s: &[u32], m: usize, marks: &[u32]) -> u32
-    requires { ⌜ Prepared (now rows) k (now s) m (now marks) ⌝ }
+pub fn work_conserving_bound(rows: &[u32], k: usize, s: &[u32], m: usize, list: &[u32]) -> u32
+    requires { ⌜ Prepared (now rows) k (now s) m (now list) ⌝ }
     ensures { λ r. ⌜ r ≡ workConservingBound (jobsOf (now (rows .entry)) k) (stateOf m k (now (s .entry))) ⌝ }
 {
-    let first = first_certainly_ready(rows, k, s, m, marks);
+    let first = first_certainly_ready(rows, k, s, m, list);
     let free = s[SET_WORDS + m];
     if first == NO_LIMIT {
         return free;
@@ -164,35 +156,18 @@ pub fn work_conserving_bound(rows: &[u32], k: usize, s: &[u32], m: usize, marks:
     larger(free, first)
 }
 
-// Whether job j is marked and goes before job i.
-fn is_higher_candidate(rows: &[u32], k: usize, marks: &[u32], i: usize, j: usize) -> bool
-    requires { ⌜ (i < k) × (j < k) × Rows (now rows) k × (k ≤ length (now marks)) ⌝ }
-    ensures { λ r. ⌜ r ≡ (eqb (getD (now (marks .entry)) j 0) 1 && before (jobsOf (now (rows .entry)) k) j i) ⌝ }
-{
-    if marks[j] != 1 {
-        return false;
-    }
-    goes_before(rows, k, j, i)
-}
-
-fn higher_priority_bound(
-    rows: &[u32],
-    k: usize,
-    s: &[u32],
-    m: usize,
-    marks: &[u32],
-    i: usize,
-) -> u32
-    requires { ⌜ (i < k) × Prepared (now rows) k (now s) m (now marks) ⌝ }
+fn higher_priority_bound(rows: &[u32], k: usize, s: &[u32], m: usize, list: &[u32], i: usize) -> u32
+    requires { ⌜ (i < k) × Prepared (now rows) k (now s) m (now list) ⌝ }
     ensures { λ r. ⌜ r ≡ limitWord (higherPriorityBound (jobsOf (now (rows .entry)) k) (stateOf m k (now (s .entry))) i) ⌝ }
 {
     let mut first = NO_LIMIT;
-    let mut j = 0;
-    while j < k {
-        if is_higher_candidate(rows, k, marks, i, j) {
+    let mut t = 0;
+    while t < list.len() {
+        let j = list[t] as usize;
+        if goes_before(rows, k, j, i) {
             first = smaller(first, certainly_ready_beside(rows, k, s, m, i, j));
         }
-        j += 1;
+        t += 1;
     }
     first
 }
@@ -204,27 +179,25 @@ fn earliest_start(rows: &[u32], k: usize, s: &[u32], m: usize, i: usize) -> u32
     larger(s[SET_WORDS], possibly_ready(rows, k, s, m, i))
 }
 
-// Whether job i may start next, and when. The work-conserving bound, which all edges of the state share, is given.
+// Whether candidate i may start next, and when. The work-conserving bound, which all edges of the state share, is given.
 pub fn edge_of(
     rows: &[u32],
     k: usize,
     s: &[u32],
     m: usize,
-    marks: &[u32],
+    list: &[u32],
     bound: u32,
     i: usize,
 ) -> Edge
-    requires { ⌜ (i < k) × Prepared (now rows) k (now s) m (now marks) × (bound ≡ workConservingBound (jobsOf (now rows) k) (stateOf m k (now s))) ⌝ }
+    requires { ⌜ (i < k) × Prepared (now rows) k (now s) m (now list) × (candidate (jobsOf (now rows) k) (stateOf m k (now s)) i ≡ true)
+        × (bound ≡ workConservingBound (jobsOf (now rows) k) (stateOf m k (now s))) ⌝ }
     ensures { λ r. ⌜ r ≡ edgeOf (jobsOf (now (rows .entry)) k) (stateOf m k (now (s .entry))) i ⌝ }
 {
-    if marks[i] != 1 {
-        return Edge::NotEligible;
-    }
     let start = earliest_start(rows, k, s, m, i);
     if bound < start {
         return Edge::NotEligible;
     }
-    let higher = higher_priority_bound(rows, k, s, m, marks, i);
+    let higher = higher_priority_bound(rows, k, s, m, list, i);
     if higher <= start {
         return Edge::NotEligible;
     }

@@ -9,22 +9,9 @@ use Rattle.model.proofs.Bounds.{earliest-start-up-to, bound-up-to}
 use Rattle.jobs.specs.Rows.{jobsOf}
 use Rattle.jobs.proofs.Jobs.{length-jobs}
 use Rattle.states.specs.Slots.{stateOf}
-use Rattle.edges.proofs.Edges.{marked, not-marked, no-candidate, past-the-bound, held-back, starts}
+use Rattle.edges.proofs.Edges.{past-the-bound, held-back, starts}
 use Rattle.edges.proofs.edge_of.Statement.{statement}
 use Rattle.edges.proofs.edge_of.Tie as tie
-
-mul-if1 : tie.Need-mul-if1
-mul-if1 c = search needs
-
-shared-slice-read-if1 : tie.Need-shared-slice-read-if1
-shared-slice-read-if1 c = search needs
-
-returns : tie.Need-returns
-returns c =
-    let s = c .before .before .before .before .before in
-    let js = jobsOf (now (s .args .rows)) (s .args .k) in
-    let σ = stateOf (s .args .m) (s .args .k) (now (s .args .s)) in
-    no-candidate js σ (s .args .i) (not-marked js σ (s .args .k) (now (s .args .marks)) (s .pre .1 .marked) (s .args .i) (s .pre .0) (c .if1 .taken))
 
 earliest-start-requires : tie.Need-earliest-start-requires
 earliest-start-requires c κs = search needs
@@ -32,31 +19,31 @@ earliest-start-requires c κs = search needs
 -- the earliest start is a time, so it is below the word for infinity
 early : (c : tie.After-earliest-start) → c .earliest-start .result ≤ latestTime
 early c =
-    let s = c .before .before .before .before .before .before in
+    let s = c .before .before .before .before in
     let js = jobsOf (now (s .args .rows)) (s .args .k) in
     let σ = stateOf (s .args .m) (s .args .k) (now (s .args .s)) in
     let b : s .args .i < length js = omega (arith, length-jobs (now (s .args .rows)) (s .args .k), s .pre .0) in
     omega (arith, c .earliest-start .ensures, earliest-start-up-to js latestTime (s .pre .1 .readable .setting .timed) σ (s .pre .1 .bounded) (s .args .i) b)
 
-returns-2 : tie.Need-returns-2
-returns-2 c =
-    let s = c .before .before .before .before .before .before .before in
+returns : tie.Need-returns
+returns c =
+    let s = c .before .before .before .before .before in
     let e = c .before .earliest-start in
     let js = jobsOf (now (s .args .rows)) (s .args .k) in
     let σ = stateOf (s .args .m) (s .args .k) (now (s .args .s)) in
-    past-the-bound js σ (s .args .i) (e .result) (s .args .bound) (e .ensures) (s .pre .2) (c .if2 .taken)
+    past-the-bound js σ (s .args .i) (e .result) (s .args .bound) (e .ensures) (s .pre .3) (c .if1 .taken)
 
 higher-priority-bound-requires : tie.Need-higher-priority-bound-requires
 higher-priority-bound-requires c κs = search needs
 
-returns-3 : tie.Need-returns-3
-returns-3 c =
-    let s = c .before .before .before .before .before .before .before .before .before in
+returns-2 : tie.Need-returns-2
+returns-2 c =
+    let s = c .before .before .before .before .before .before .before in
     let e = c .before .before .before .earliest-start in
     let h = c .before .higher-priority-bound in
     let js = jobsOf (now (s .args .rows)) (s .args .k) in
     let σ = stateOf (s .args .m) (s .args .k) (now (s .args .s)) in
-    held-back js σ (s .args .i) (e .result) (s .args .bound) (e .ensures) (s .pre .2) (h .result) (h .ensures) (early (c .before .before .before)) (c .if3 .taken)
+    held-back js σ (s .args .i) (e .result) (s .args .bound) (e .ensures) (s .pre .3) (h .result) (h .ensures) (early (c .before .before .before)) (c .if2 .taken)
 
 sub-smaller : tie.Need-sub-smaller
 sub-smaller c = search needs
@@ -64,29 +51,25 @@ sub-smaller c = search needs
 smaller-requires : tie.Need-smaller-requires
 smaller-requires c κs = search needs
 
-returns-4 : tie.Need-returns-4
-returns-4 c =
-    let s = c .before .before .before .before .before .before .before .before .before .before in
+returns-3 : tie.Need-returns-3
+returns-3 c =
+    let s = c .before .before .before .before .before .before .before .before in
     let e = c .before .before .before .before .earliest-start in
     let h = c .before .before .higher-priority-bound in
     let js = jobsOf (now (s .args .rows)) (s .args .k) in
     let σ = stateOf (s .args .m) (s .args .k) (now (s .args .s)) in
-    let b : s .args .bound ≤ latestTime = omega (arith, s .pre .2, bound-up-to js latestTime (s .pre .1 .readable .setting .timed) σ (s .pre .1 .bounded)) in
-    let m = marked js σ (s .args .k) (now (s .args .marks)) (s .pre .1 .marked) (s .args .i) (s .pre .0) (c .before .before .before .before .before .if1 .left) in
-    starts js σ (s .args .i) (e .result) (s .args .bound) (e .ensures) (s .pre .2) (h .result) (h .ensures) (early (c .before .before .before .before)) b m
-    (c .before .before .before .if2 .left) (c .before .if3 .left) (c .smaller .result) (c .smaller .ensures)
+    let b : s .args .bound ≤ latestTime = omega (arith, s .pre .3, bound-up-to js latestTime (s .pre .1 .readable .setting .timed) σ (s .pre .1 .bounded)) in
+    starts js σ (s .args .i) (e .result) (s .args .bound) (e .ensures) (s .pre .3) (h .result) (h .ensures) (early (c .before .before .before .before)) b (s .pre .2)
+    (c .before .before .before .if1 .left) (c .before .if2 .left) (c .smaller .result) (c .smaller .ensures)
 
 pub edge-of-spec : {M : Type 1} → statement M
 edge-of-spec =
     tie.close
     (tie.spec
-    mul-if1
-    shared-slice-read-if1
-    returns
     earliest-start-requires
-    returns-2
+    returns
     higher-priority-bound-requires
-    returns-3
+    returns-2
     sub-smaller
     smaller-requires
-    returns-4)
+    returns-3)

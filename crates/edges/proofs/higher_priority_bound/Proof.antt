@@ -1,74 +1,97 @@
--- `edges::higher_priority_bound` meets its contract. The loop's invariant: `first` is the smallest over the jobs below j. Assumes nothing.
-use Prim.Native.Nat.{ℕ, _+_, _-_, _≤_, min}
-use mathlib.Core.Path.{_≡_, refl, ap, _∙_}
+-- `edges::higher_priority_bound` meets its contract. The loop's invariant: `first` is the smallest over the candidates before place t. Assumes nothing.
+use Prim.Native.Nat.{ℕ, _+_, _-_, _<_, _≤_, min}
+use mathlib.Core.Path.{_≡_, refl, sym, ap, _∙_}
 use mathlib.Core.Logic.{⊎-elim}
+use mathlib.Core.Bool.{Bool}
+use mathlib.Core.List.{List}
 use native.Mathlib.Omega.{arith}
-use lib.ListN.{length}
+use lib.ListN.{getD, length, take}
+use lib.Seq.{take-all}
 use denote.Ref.{now}
 use borrow.Author.Needs.{needs}
-use Rattle.model.specs.Folds.{smallest}
-use Rattle.model.specs.Edges.{certainlyReadyBeside, higherPriorityBound}
+use Rattle.model.specs.Jobs.{before}
+use Rattle.model.specs.Edges.{certainlyReadyBeside}
 use Rattle.jobs.specs.Rows.{jobsOf}
 use Rattle.jobs.proofs.Jobs.{length-jobs}
 use Rattle.states.specs.Slots.{stateOf}
-use Rattle.edges.specs.Edges.{limitWord, higherCandidate}
-use Rattle.edges.proofs.Folds.{smallest-with, smallest-without}
-use Rattle.edges.proofs.Edges.{higher-marked}
+use Rattle.edges.specs.Edges.{limitWord}
+use Rattle.edges.proofs.Listing.{listed-candidate}
+use Rattle.edges.proofs.Folds.{smallestIn, smallest-with, smallest-without}
+use Rattle.edges.proofs.Edges.{higher-listed}
 use Rattle.edges.proofs.higher_priority_bound.Statement.{statement}
 use Rattle.edges.proofs.higher_priority_bound.Tie as tie
 
 abbrev Inv-loop : tie.InvT-loop
-Inv-loop rows k s m marks i first₀ j₀ first j =
-    (j ≤ k) × (first ≡ limitWord (smallest (higherCandidate (jobsOf rows k) (stateOf m k s) i) (certainlyReadyBeside (jobsOf rows k) (stateOf m k s) i) j))
+Inv-loop rows k s m list i first₀ t₀ first t =
+    (t ≤ length list) × (first ≡ limitWord (smallestIn (λ j. before (jobsOf rows k) j i) (certainlyReadyBeside (jobsOf rows k) (stateOf m k s) i) (take t list)))
 
 abbrev μ-loop : tie.MeasureT-loop
-μ-loop rows k s m marks i first₀ j₀ first j = k - j
+μ-loop rows k s m list i first₀ t₀ first t = length list - t
 
 loop-holds : tie.Need-loop-holds Inv-loop μ-loop
-unfolding smallest
 loop-holds c = (omega arith, refl)
 
-is-higher-candidate-requires : tie.Need-is-higher-candidate-requires Inv-loop μ-loop
-is-higher-candidate-requires c κs = search needs
+-- the job at place t is a candidate
+below : (c : tie.After-shared-slice-known4 Inv-loop μ-loop) → getD (now (c .before .before .before .before .before .before .args .list)) (c .before .before .loop .t) 0 < c .before .before .before .before .before .before .args .k
+below c =
+    let s = c .before .before .before .before .before .before in
+    let js = jobsOf (now (s .args .rows)) (s .args .k) in
+    let σ = stateOf (s .args .m) (s .args .k) (now (s .args .s)) in
+    listed-candidate js σ (s .args .k) (now (s .args .list)) (s .pre .1 .listed) (c .before .before .loop .t) (omega arith) .0
+
+mul-j : tie.Need-mul-j Inv-loop μ-loop
+mul-j c = search needs
+
+shared-slice-read-j : tie.Need-shared-slice-read-j Inv-loop μ-loop
+shared-slice-read-j c = search needs
+
+cast-j : tie.Need-cast-j Inv-loop μ-loop
+cast-j c = omega (arith, below c)
+
+goes-before-requires : tie.Need-goes-before-requires Inv-loop μ-loop
+goes-before-requires c κs = (below c, c .before .before .before .before .before .before .pre .0, c .before .before .before .before .before .before .pre .1 .readable .setting .rows-of)
 
 certainly-ready-beside-requires : tie.Need-certainly-ready-beside-requires Inv-loop μ-loop
-certainly-ready-beside-requires c κs = search needs
+certainly-ready-beside-requires c κs = (c .before .before .before .before .before .before .before .before .pre .0, below (c .before .before), c .before .before .before .before .before .before .before .before .pre .1 .readable)
 
 smaller-requires : tie.Need-smaller-requires Inv-loop μ-loop
 smaller-requires c κs = search needs
 
-add-j : tie.Need-add-j Inv-loop μ-loop
-add-j c = search needs
+add-t : tie.Need-add-t Inv-loop μ-loop
+add-t c = search needs
 
 loop-less : tie.Need-loop-less Inv-loop μ-loop
 loop-less c = search needs
 
 loop-again : tie.Need-loop-again Inv-loop μ-loop
 loop-again c =
-    let s = c .before .before .before .before .before .before .before in
-    let i = c .before .before .before .loop in
+    let s = c .before .before .before .before .before .before .before .before in
+    let i = c .before .before .before .before .loop in
     let js = jobsOf (now (s .args .rows)) (s .args .k) in
     let σ = stateOf (s .args .m) (s .args .k) (now (s .args .s)) in
-    let p = higherCandidate js σ (s .args .i) in
+    let l = now (s .args .list) in
+    let q : ℕ → Bool = λ j. before js j (s .args .i) in
     let f = certainlyReadyBeside js σ (s .args .i) in
-    let r = c .before .is-higher-candidate in
-    let test = higher-marked js σ (s .args .k) (now (s .args .marks)) (s .pre .1 .marked) (i .j) (omega arith) (s .args .i) (r .result) (r .ensures) in (
+    let r = c .before .goes-before in
+    let h : i .t < length l = omega arith in (
       omega arith,
-      ⊎-elim {C = c .if1 .first ≡ limitWord (smallest p f (i .j + 1))}
+      ⊎-elim {C = c .if1 .first ≡ limitWord (smallestIn q f (take (i .t + 1) l))}
           (λ w. w .3 ∙ w .2 .ensures ∙ ap (min (i .first)) (w .1 .ensures)
-          ∙ smallest-with p f (i .j) (i .first) (i .inv .1) (test ∙ w .0 .taken) (omega (arith, w .1 .ok, w .1 .ensures)))
-          (λ w. w .1 ∙ smallest-without p f (i .j) (i .first) (i .inv .1) (test ∙ w .0 .left))
+          ∙ smallest-with q f l (i .t) (i .first) h (i .inv .1) (sym (r .ensures) ∙ w .0 .taken) (omega (arith, w .1 .ok, w .1 .ensures)))
+          (λ w. w .1 ∙ smallest-without q f l (i .t) (i .first) h (i .inv .1) (sym (r .ensures) ∙ w .0 .left))
           (c .if1 .came),
     )
 
 returns : tie.Need-returns Inv-loop μ-loop
-unfolding higherPriorityBound higherCandidate
 returns c =
-    let a = c .before .before .before .before .before .args in
-    let js = jobsOf (now (a .rows)) (a .k) in
-    let σ = stateOf (a .m) (a .k) (now (a .s)) in
-    let e : c .before .loop .j ≡ length js = omega (arith, length-jobs (now (a .rows)) (a .k)) in
-    c .before .loop .inv .1 ∙ ap (λ (n : ℕ). limitWord (smallest (higherCandidate js σ (a .i)) (certainlyReadyBeside js σ (a .i)) n)) e
+    let s = c .before .before .before .before .before in
+    let js = jobsOf (now (s .args .rows)) (s .args .k) in
+    let σ = stateOf (s .args .m) (s .args .k) (now (s .args .s)) in
+    let l = now (s .args .list) in
+    let i = s .args .i in
+    let e : take (c .before .loop .t) l ≡ l = take-all (c .before .loop .t) l (omega arith) in
+    c .before .loop .inv .1 ∙ ap (λ (x : List ℕ). limitWord (smallestIn (λ j. before js j i) (certainlyReadyBeside js σ i) x)) e
+    ∙ ap limitWord (higher-listed js σ (s .args .k) l (s .pre .1 .listed) (sym (length-jobs (now (s .args .rows)) (s .args .k))) i)
 
 pub higher-priority-bound-spec : {M : Type 1} → statement M
 higher-priority-bound-spec =
@@ -77,10 +100,13 @@ higher-priority-bound-spec =
     Inv-loop
     μ-loop
     loop-holds
-    is-higher-candidate-requires
+    mul-j
+    shared-slice-read-j
+    cast-j
+    goes-before-requires
     certainly-ready-beside-requires
     smaller-requires
-    add-j
+    add-t
     loop-less
     loop-again
     returns)

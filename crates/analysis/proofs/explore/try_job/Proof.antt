@@ -12,7 +12,7 @@ use Rattle.analysis.proofs.explore.try_job.Tie as tie
 edge-of-requires : tie.Need-edge-of-requires
 edge-of-requires c κs =
     let p = c .before .before .before .before .before .pre in
-    (p .0, record { readable = record { setting = p .1 .setting; words = p .1 .words }; bounded = p .1 .sound .bounded; marked = p .2 }, p .3)
+    (p .0, record { readable = record { setting = p .1 .setting; words = p .1 .words }; bounded = p .1 .sound .bounded; listed = p .2 }, p .3, p .4)
 
 enum-known-s : tie.Need-enum-known-s
 enum-known-s c = search needs

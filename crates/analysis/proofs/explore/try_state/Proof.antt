@@ -1,30 +1,38 @@
 -- `try_state` meets its contract. Assumes nothing.
+use mathlib.Core.Path.{sym}
+use lib.Seq.{length-take-le}
 use borrow.Author.Needs.{needs}
 use Rattle.analysis.proofs.explore.try_state.Statement.{statement}
 use Rattle.analysis.proofs.explore.try_state.Tie as tie
 
-slice-aggregate-mark-candidates : tie.Need-slice-aggregate-mark-candidates
-slice-aggregate-mark-candidates c = search needs
+slice-aggregate-list-candidates : tie.Need-slice-aggregate-list-candidates
+slice-aggregate-list-candidates c = search needs
 
-mark-candidates-requires : tie.Need-mark-candidates-requires
-mark-candidates-requires c κs =
+list-candidates-requires : tie.Need-list-candidates-requires
+list-candidates-requires c κs =
     let p = c .before .before .before .before .before .pre in (record { setting = p .0; words = p .1 }, p .0 .jobs)
 
+array-share-prefix-list : tie.Need-array-share-prefix-list
+array-share-prefix-list c = search needs
+
 slice-aggregate-work-conserving-bound : tie.Need-slice-aggregate-work-conserving-bound
-slice-aggregate-work-conserving-bound c = search needs
+slice-aggregate-work-conserving-bound c = sym (length-take-le _ _ (c .before .before .list-candidates .ensures .0))
 
 work-conserving-bound-requires : tie.Need-work-conserving-bound-requires
 work-conserving-bound-requires c κs =
     let p = c .before .before .before .before .before .before .before .before .pre in
-    record { readable = record { setting = p .0; words = p .1 }; bounded = p .2 .bounded; marked = c .before .before .mark-candidates .ensures }
+    record { readable = record { setting = p .0; words = p .1 }; bounded = p .2 .bounded; listed = c .before .before .list-candidates .ensures .1 }
+
+array-share-prefix-list-2 : tie.Need-array-share-prefix-list-2
+array-share-prefix-list-2 c = search needs
 
 slice-aggregate-try-jobs : tie.Need-slice-aggregate-try-jobs
-slice-aggregate-try-jobs c = search needs
+slice-aggregate-try-jobs c = sym (length-take-le _ _ (c .before .before .before .before .before .before .list-candidates .ensures .0))
 
 try-jobs-requires : tie.Need-try-jobs-requires
 try-jobs-requires c κs =
     let p = c .before .before .before .before .before .before .before .before .before .before .before .before .pre in
-    (record { setting = p .0; words = p .1; sound = p .2; half-of = p .3; observed = p .4 }, c .before .before .before .before .before .before .mark-candidates .ensures, c .before .before .before .work-conserving-bound .ensures)
+    (record { setting = p .0; words = p .1; sound = p .2; half-of = p .3; observed = p .4 }, c .before .before .before .before .before .before .list-candidates .ensures .1, c .before .before .before .work-conserving-bound .ensures)
 
 same-length : tie.Need-same-length
 same-length c = search needs
@@ -39,10 +47,12 @@ pub try-state-spec : {M : Type 1} → statement M
 try-state-spec =
     tie.close
     (tie.spec
-    slice-aggregate-mark-candidates
-    mark-candidates-requires
+    slice-aggregate-list-candidates
+    list-candidates-requires
+    array-share-prefix-list
     slice-aggregate-work-conserving-bound
     work-conserving-bound-requires
+    array-share-prefix-list-2
     slice-aggregate-try-jobs
     try-jobs-requires
     same-length
