@@ -1,12 +1,14 @@
 -- One turn, and the end, of a loop over a list from its start. Assumes nothing.
 use Prim.Native.Nat.{ℕ, _+_, _<_, _≤_, min, max}
-use mathlib.Core.Path.{_≡_, ap, _∙_}
+use mathlib.Core.Path.{_≡_, refl, ap, _∙_}
 use mathlib.Core.Bool.{Bool, true, false, _&&_, cond}
 use mathlib.Core.List.{List, foldl}
 use native.Mathlib.Numerals.{add-one}
 use native.Mathlib.Omega.{arith}
+use lib.Dec.{ltb}
 use lib.ListN.{getD, length, take, drop, drop-of-length-le}
 use lib.Seq.{drop-cons}
+use borrow.Author.Tests.{ltb-false}
 use Rattle.model.specs.Folds.{every, largest, Limit, infinite, finite, smallest}
 use Rattle.model.specs.Folds as folds
 use Rattle.edges.specs.Edges.{listBelow, noLimit, limitWord}
@@ -56,8 +58,26 @@ module _ (q : ℕ → Bool) (f : ℕ → ℕ) (l : List ℕ) (t r : ℕ) (h : t 
       go infinite = omega arith
       go (finite y) = omega arith
 
+  -- an element that is not below r leaves it, whether it passes or not
+  smallest-past : (low : ℕ) → low < noLimit → low ≤ f (getD l t 0) → r ≤ low → r ≡ limitWord (smallestIn q f (take (t + 1) l))
+  smallest-past low s g b = rw turned (go (q (getD l t 0)) (smallestIn q f (take t l)) so-far)
+    where
+      go : (p : Bool) (x : Limit) → r ≡ limitWord x → r ≡ limitWord (cond p (folds.smaller (f (getD l t 0)) x) x)
+      go false x e = e
+      go true infinite e = absurd (omega arith)
+      go true (finite y) e = omega arith
+
   pub smallest-without : q (getD l t 0) ≡ false → r ≡ limitWord (smallestIn q f (take (t + 1) l))
   smallest-without e = rw (turned, e) so-far
+
+  -- the element is not below r, or does not pass
+  pub smallest-kept : (low : ℕ) → low < noLimit → low ≤ f (getD l t 0) → (ltb low r && q (getD l t 0)) ≡ false
+      → r ≡ limitWord (smallestIn q f (take (t + 1) l))
+  smallest-kept low s g = go (ltb low r) refl
+    where
+      go : (b : Bool) → ltb low r ≡ b → (b && q (getD l t 0)) ≡ false → r ≡ limitWord (smallestIn q f (take (t + 1) l))
+      go true e n = smallest-without n
+      go false e n = smallest-past low s g (ltb-false low r e)
 
 -- over the numbers that pass p, in a list, it is the smallest over the numbers that pass both
 pub smallest-listed : (p q b : ℕ → Bool) (f : ℕ → ℕ) → ((j : ℕ) → b j ≡ (p j && q j)) → (n : ℕ) → smallestIn q f (listBelow p n) ≡ smallest b f n

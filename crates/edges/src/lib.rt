@@ -1,13 +1,14 @@
 // Which jobs may start next in a state, and when. There are k jobs, in `rows`, and m cores; the words `s` are the state.
 ghost use mathlib.Core.Path.{_≡_};
 ghost use Prim.Native.Nat.{_<_, _≤_};
-ghost use mathlib.Core.Bool.{true, not, cond};
+ghost use mathlib.Core.Bool.{true, not, cond, _&&_};
+ghost use lib.Dec.{ltb};
 ghost use lib.ListN.{length, take};
 ghost use Rattle.model.specs.Folds.{every, member};
-ghost use Rattle.model.specs.Jobs.{predecessors};
+ghost use Rattle.model.specs.Jobs.{job, predecessors, before};
 ghost use Rattle.model.specs.States.{latest, finishOf, started};
 ghost use Rattle.model.specs.Edges.{candidate, possiblyReady, certainlyReady, earliestStart, workConservingBound, certainlyReadyBeside, higherPriorityBound};
-ghost use Rattle.jobs.specs.Rows.{jobsOf};
+ghost use Rattle.jobs.specs.Rows.{jobsOf, Rows};
 ghost use Rattle.states.specs.Slots.{stateOf};
 ghost use Rattle.edges.specs.Edges.{Readable, candidates, Prepared, limitWord, firstCertainlyReady, edgeOf};
 use jobs::earliest_release;
@@ -156,6 +157,17 @@ pub fn work_conserving_bound(rows: &[u32], k: usize, s: &[u32], m: usize, list: 
     larger(free, first)
 }
 
+// Whether job j goes before job i and may be ready before `first`: not before its latest release.
+fn may_lower(rows: &[u32], k: usize, i: usize, j: usize, first: u32) -> bool
+    requires { ⌜ (i < k) × (j < k) × Rows (now rows) k ⌝ }
+    ensures { λ r. ⌜ r ≡ (ltb (job (jobsOf (now (rows .entry)) k) j .latestRelease) first && before (jobsOf (now (rows .entry)) k) j i) ⌝ }
+{
+    if first <= latest_release(rows, k, j) {
+        return false;
+    }
+    goes_before(rows, k, j, i)
+}
+
 fn higher_priority_bound(rows: &[u32], k: usize, s: &[u32], m: usize, list: &[u32], i: usize) -> u32
     requires { ⌜ (i < k) × Prepared (now rows) k (now s) m (now list) ⌝ }
     ensures { λ r. ⌜ r ≡ limitWord (higherPriorityBound (jobsOf (now (rows .entry)) k) (stateOf m k (now (s .entry))) i) ⌝ }
@@ -164,7 +176,7 @@ fn higher_priority_bound(rows: &[u32], k: usize, s: &[u32], m: usize, list: &[u3
     let mut t = 0;
     while t < list.len() {
         let j = list[t] as usize;
-        if goes_before(rows, k, j, i) {
+        if may_lower(rows, k, i, j, first) {
             first = smaller(first, certainly_ready_beside(rows, k, s, m, i, j));
         }
         t += 1;

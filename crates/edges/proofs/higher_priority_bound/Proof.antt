@@ -5,18 +5,20 @@ use mathlib.Core.Logic.{⊎-elim}
 use mathlib.Core.Bool.{Bool}
 use mathlib.Core.List.{List}
 use native.Mathlib.Omega.{arith}
+use lib.Dec.{ltb}
 use lib.ListN.{getD, length, take}
 use lib.Seq.{take-all}
 use denote.Ref.{now}
 use borrow.Author.Needs.{needs}
-use Rattle.model.specs.Jobs.{before}
+use Rattle.model.specs.Jobs.{job, before}
+use Rattle.model.proofs.Booleans.{and-right}
 use Rattle.model.specs.Edges.{certainlyReadyBeside}
 use Rattle.jobs.specs.Rows.{jobsOf}
 use Rattle.jobs.proofs.Jobs.{length-jobs}
 use Rattle.states.specs.Slots.{stateOf}
 use Rattle.edges.specs.Edges.{limitWord}
 use Rattle.edges.proofs.Listing.{listed-candidate}
-use Rattle.edges.proofs.Folds.{smallestIn, smallest-with, smallest-without}
+use Rattle.edges.proofs.Folds.{smallestIn, smallest-with, smallest-kept}
 use Rattle.edges.proofs.Edges.{higher-listed}
 use Rattle.edges.proofs.higher_priority_bound.Statement.{statement}
 use Rattle.edges.proofs.higher_priority_bound.Tie as tie
@@ -48,8 +50,8 @@ shared-slice-read-j c = search needs
 cast-j : tie.Need-cast-j Inv-loop μ-loop
 cast-j c = omega (arith, below c)
 
-goes-before-requires : tie.Need-goes-before-requires Inv-loop μ-loop
-goes-before-requires c κs = (below c, c .before .before .before .before .before .before .pre .0, c .before .before .before .before .before .before .pre .1 .readable .setting .rows-of)
+may-lower-requires : tie.Need-may-lower-requires Inv-loop μ-loop
+may-lower-requires c κs = (c .before .before .before .before .before .before .pre .0, below c, c .before .before .before .before .before .before .pre .1 .readable .setting .rows-of)
 
 certainly-ready-beside-requires : tie.Need-certainly-ready-beside-requires Inv-loop μ-loop
 certainly-ready-beside-requires c κs = (c .before .before .before .before .before .before .before .before .pre .0, below (c .before .before), c .before .before .before .before .before .before .before .before .pre .1 .readable)
@@ -64,6 +66,7 @@ loop-less : tie.Need-loop-less Inv-loop μ-loop
 loop-less c = search needs
 
 loop-again : tie.Need-loop-again Inv-loop μ-loop
+unfolding certainlyReadyBeside
 loop-again c =
     let s = c .before .before .before .before .before .before .before .before in
     let i = c .before .before .before .before .loop in
@@ -72,13 +75,16 @@ loop-again c =
     let l = now (s .args .list) in
     let q : ℕ → Bool = λ j. before js j (s .args .i) in
     let f = certainlyReadyBeside js σ (s .args .i) in
-    let r = c .before .goes-before in
+    let r = c .before .may-lower in
+    let j = getD l (i .t) 0 in
+    let in-time = s .pre .1 .readable .setting .timed .releases j (omega (arith, below (c .before .before), length-jobs (now (s .args .rows)) (s .args .k))) in
+    let after : job js j .latestRelease ≤ f j = omega arith in
     let h : i .t < length l = omega arith in (
       omega arith,
       ⊎-elim {C = c .if1 .first ≡ limitWord (smallestIn q f (take (i .t + 1) l))}
           (λ w. w .3 ∙ w .2 .ensures ∙ ap (min (i .first)) (w .1 .ensures)
-          ∙ smallest-with q f l (i .t) (i .first) h (i .inv .1) (sym (r .ensures) ∙ w .0 .taken) (omega (arith, w .1 .ok, w .1 .ensures)))
-          (λ w. w .1 ∙ smallest-without q f l (i .t) (i .first) h (i .inv .1) (sym (r .ensures) ∙ w .0 .left))
+          ∙ smallest-with q f l (i .t) (i .first) h (i .inv .1) (and-right (ltb (job js j .latestRelease) (i .first)) (q j) (sym (r .ensures) ∙ w .0 .taken)) (omega (arith, w .1 .ok, w .1 .ensures)))
+          (λ w. w .1 ∙ smallest-kept q f l (i .t) (i .first) h (i .inv .1) (job js j .latestRelease) (omega (arith, in-time)) after (sym (r .ensures) ∙ w .0 .left))
           (c .if1 .came),
     )
 
@@ -103,7 +109,7 @@ higher-priority-bound-spec =
     mul-j
     shared-slice-read-j
     cast-j
-    goes-before-requires
+    may-lower-requires
     certainly-ready-beside-requires
     smaller-requires
     add-t
