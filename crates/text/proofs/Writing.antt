@@ -1,10 +1,10 @@
 -- Texts one after the other in a buffer. Assumes nothing.
-use Prim.Native.Nat.{ℕ, _+_, _≤_}
-use mathlib.Core.Path.{_≡_, _∙_}
+use Prim.Native.Nat.{ℕ, _≤_}
+use mathlib.Core.Path.{_∙_}
 use mathlib.Core.List.{List, _++_}
 use native.Mathlib.Omega.{arith}
 use lib.ListN.{length, length-append}
-use Rattle.words.proofs.Placing.{placed-append, length-placed}
+use Rattle.words.proofs.Placing.{placed-append}
 use Rattle.text.specs.Written.{Written}
 
 module _ {before : List ℕ} {at : ℕ} {s mid : List ℕ} {e₁ : ℕ} where
@@ -16,6 +16,3 @@ module _ {before : List ℕ} {at : ℕ} {s mid : List ℕ} {e₁ : ℕ} where
         ended = omega (arith, length-append s t, a .ended, b .ended);
         holds = b .holds ∙ rw (a .holds) (placed-append before at e₁ s t h (omega (arith, a .ended)));
       }
-
-  pub written-length : at + length s ≤ length before → Written before at s mid e₁ → length mid ≡ length before
-  written-length h a = rw (a .holds) (length-placed before at s h)
