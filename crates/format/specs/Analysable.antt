@@ -17,7 +17,7 @@ pub record InRanges (j : Job) : Type 0 where
   pub release : (j .earliestRelease ≤ j .latestRelease) × (j .latestRelease ≤ latestTime)
   pub deadline : j .deadline ≤ latestTime
 
--- Counts and times are small, the predecessors of a job few and smaller than the job, and its key one that a bell sounds for.
+-- Counts and times are small, the predecessors of a job few and smaller than the job, and its key not below the lowest of a bell.
 pub record Analysable (x : Phrase) : Type 0 where
   pub cores : (1 ≤ x .cores) × (x .cores ≤ mostCores)
   pub jobCount : length (jobsOf x) ≤ mostJobs

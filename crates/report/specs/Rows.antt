@@ -28,7 +28,7 @@ strokeIn rows earliest latest best worst i =
 abbrev pub holdIn : List ℕ → ℕ → ℕ
 holdIn rows = sum (λ i. word rows i mostExecutionAt)
 
--- every key is one that a bell sounds for
+-- no key is below the lowest that a bell sounds for
 abbrev pub Keyed : List ℕ → ℕ → Type 0
 Keyed rows k = (i : ℕ) → i < k → lowestKey ≤ word rows i keyAt
 
