@@ -17,9 +17,11 @@ use Rattle.words.proofs.Parts.{part, part-length, part-same, length-put}
 use Rattle.jobs.specs.Rows.{jobsOf}
 use Rattle.jobs.proofs.Jobs.{length-jobs}
 use Rattle.states.specs.Slots.{setOf, stateOf, slotOf, statesOf, Sound}
+use Rattle.store.specs.Half.{buckets}
 use Rattle.store.proofs.Storing.{slot-fits}
+use Rattle.store.proofs.Indexing.{nothing-indexed}
 use Rattle.analysis.specs.Observed.{observedOf, Observed}
-use Rattle.analysis.specs.Progress.{progressOf, Half, HalfAt, Leaves}
+use Rattle.analysis.specs.Progress.{progressOf, Half, Target, HalfAt, Leaves}
 use Rattle.analysis.specs.Outcomes.{Halves}
 use Rattle.analysis.specs.declared.Step.{Step}
 use Rattle.analysis.specs.declared.Step.the-variants.{Going, Full, Late}
@@ -57,28 +59,31 @@ cut : (a b : ℕ) → a + b - a ≡ b
 cut a b = omega arith
 
 -- j of the n states are explored, and have left so many in the other half
-pub record Building (rows : List ℕ) (k m cap from to n : ℕ) (table₀ seen₀ table seen : List ℕ) (built j : ℕ) : Type 0 where
+pub record Building (rows : List ℕ) (k m cap from to n : ℕ) (table₀ seen₀ table seen heads : List ℕ) (built j : ℕ) : Type 0 where
   pub halves : Halves (length table₀) (cap * stateWords m k) from to
   pub given : Half (jobsOf rows k) m k cap (part from (cap * stateWords m k) table₀) n
   pub upto : j ≤ n
   pub long : length table ≡ length table₀
-  pub half : Half (jobsOf rows k) m k cap (part to (cap * stateWords m k) table) built
+  pub target : Target (jobsOf rows k) m k cap (part to (cap * stateWords m k) table) heads built
   pub frame : table ≡ putMid to (cap * stateWords m k) table₀ (part to (cap * stateWords m k) table)
   pub observed : Observed k seen
   pub rest : (c : ℕ) →
       tryStates (jobsOf rows k) cap (tabulate (λ (i : ℕ). stateOf m k (slotOf m k (part from (cap * stateWords m k) table₀) i)) j (n - j)) (going (statesOf m k (part to (cap * stateWords m k) table) built) (observedOf k seen) c)
       ≡ tryStates (jobsOf rows k) cap (statesOf m k (part from (cap * stateWords m k) table₀) n) (going [] (observedOf k seen₀) c)
 
-pub building-starts : {rows : List ℕ} {k m cap from to n : ℕ} {table seen : List ℕ} → Halves (length table) (cap * stateWords m k) from to
-    → Half (jobsOf rows k) m k cap (part from (cap * stateWords m k) table) n → Observed k seen → Building rows k m cap from to n table seen table seen 0 0
+pub building-starts : {rows : List ℕ} {k m cap from to n : ℕ} {table seen heads : List ℕ} → Halves (length table) (cap * stateWords m k) from to
+    → Half (jobsOf rows k) m k cap (part from (cap * stateWords m k) table) n → Observed k seen → length heads ≡ buckets → Building rows k m cap from to n table seen table seen heads 0 0
 unfolding statesOf tabulate
-building-starts {rows} {k} {m} {cap} {from} {to} {n} {table} {seen} h g o =
+building-starts {rows} {k} {m} {cap} {from} {to} {n} {table} {seen} {heads} h g o l =
     record {
       halves = h;
       given = g;
       upto = omega arith;
       long = refl;
-      half = record { long = part-length to (cap * stateWords m k) table (h .target); room = omega arith; sound = λ j b. absurd (omega (arith, b)) };
+      target = (
+        record { long = part-length to (cap * stateWords m k) table (h .target); room = omega arith; sound = λ j b. absurd (omega (arith, b)) },
+        nothing-indexed m k (part to (cap * stateWords m k) table) heads l,
+      );
       frame = sym (put-same to (cap * stateWords m k) table);
       observed = o;
       rest = λ c.
@@ -86,7 +91,7 @@ building-starts {rows} {k} {m} {cap} {from} {to} {n} {table} {seen} h g o =
           (sub-zero n);
     }
 
-module _ {rows : List ℕ} {k m cap from to n : ℕ} {table₀ seen₀ table seen : List ℕ} {built j : ℕ} (before : Building rows k m cap from to n table₀ seen₀ table seen built j) where
+module _ {rows : List ℕ} {k m cap from to n : ℕ} {table₀ seen₀ table seen heads : List ℕ} {built j : ℕ} (before : Building rows k m cap from to n table₀ seen₀ table seen heads built j) where
   abbrev js : List Job
   js = jobsOf rows k
 
@@ -104,8 +109,8 @@ module _ {rows : List ℕ} {k m cap from to n : ℕ} {table₀ seen₀ table see
   Next c = tryStates js cap (statesOf m k (part from size table₀) n) (going [] (observedOf k seen₀) c)
 
   -- what the level's end leaves, and that the rest of the table is as it was
-  abbrev Built : Step → List ℕ → List ℕ → Type 0
-  Built r table seen = Leaves js m k cap Next r (part to size table) seen × (table ≡ putMid to size table₀ (part to size table))
+  abbrev Built : Step → List ℕ → List ℕ → List ℕ → Type 0
+  Built r table seen heads = Leaves js m k cap Next r (part to size table) seen heads × (table ≡ putMid to size table₀ (part to size table))
 
   -- state j lies in the half that is read
   source-inside : j < n → from + j * W + W ≤ length table₀
@@ -114,9 +119,9 @@ module _ {rows : List ℕ} {k m cap from to n : ℕ} {table₀ seen₀ table see
   target-long : length (part to size table) ≡ size
   target-long = part-length to size table (omega (arith, before .halves .target, before .long))
 
-  pub building-ends : n ≤ j → Built (Going built) table seen
+  pub building-ends : n ≤ j → Built (Going built) table seen heads
   building-ends h = (
-    record { same = λ c. sym (states-end js cap source n j (going (statesOf m k (part to size table) built) (observedOf k seen) c) h) ∙ before .rest c; sound = before .half; observed = before .observed },
+    record { same = λ c. sym (states-end js cap source n j (going (statesOf m k (part to size table) built) (observedOf k seen) c) h) ∙ before .rest c; sound = before .target; observed = before .observed },
     before .frame,
   )
 
@@ -139,8 +144,8 @@ module _ {rows : List ℕ} {k m cap from to n : ℕ} {table₀ seen₀ table see
     pub read-inside : at + w ≤ length table
     read-inside = rw wide (omega (arith, source-inside more, before .long))
 
-    pub target-half : Half js m k cap (part to span table) built
-    target-half = rw spans (before .half)
+    pub target-half : Target js m k cap (part to span table) heads built
+    target-half = rw spans (before .target)
 
     read-now : read ≡ slotOf m k (part from size table₀) j
     read-now =
@@ -161,8 +166,8 @@ module _ {rows : List ℕ} {k m cap from to n : ℕ} {table₀ seen₀ table see
             bounded = subst (Bounded js latestTime) (sym in-hand) (s .bounded);
           }
 
-      module _ {r : Step} {half seen′ : List ℕ} (kept : length half ≡ length (part to span table))
-          (leaves : Leaves js m k cap (λ c. tryJobs js cap (stateOf m k cur) k (going (statesOf m k (part to span table) built) (observedOf k seen) c)) r half seen′) where
+      module _ {r : Step} {half seen′ heads′ : List ℕ} (kept : length half ≡ length (part to span table))
+          (leaves : Leaves js m k cap (λ c. tryJobs js cap (stateOf m k cur) k (going (statesOf m k (part to span table) built) (observedOf k seen) c)) r half seen′ heads′) where
         abbrev table′ : List ℕ
         table′ = putMid to span table half
 
@@ -192,14 +197,14 @@ module _ {rows : List ℕ} {k m cap from to n : ℕ} {table₀ seen₀ table see
             ∙ ap (λ (σ : State). tryJobs js cap σ k x) in-hand ∙ ap (λ (z : ℕ). tryJobs js cap (source j) z x) (sym (length-jobs rows k)))
             ∙ sym (states-on js cap source n j x more) ∙ before .rest c
 
-        pub building-goes-on : {count : ℕ} → r ≡ Going count → Building rows k m cap from to n table₀ seen₀ table′ seen′ count (j + 1)
+        pub building-goes-on : {count : ℕ} → r ≡ Going count → Building rows k m cap from to n table₀ seen₀ table′ seen′ heads′ count (j + 1)
         building-goes-on {count} e =
             record {
               halves = before .halves;
               given = before .given;
               upto = omega arith;
               long = ap length sized ∙ length-put to size table half fits half-long ∙ before .long;
-              half = subst (λ (z : List ℕ). Half js m k cap z count) (sym put) (subst (λ (z : Step). HalfAt js m k cap z half) e (leaves .sound));
+              target = subst (λ (z : List ℕ). Target js m k cap z heads′ count) (sym put) (subst (λ (z : Step). HalfAt js m k cap z half heads′) e (leaves .sound));
               frame = framed;
               observed = leaves .observed;
               rest = λ c.
@@ -212,10 +217,10 @@ module _ {rows : List ℕ} {k m cap from to n : ℕ} {table₀ seen₀ table see
             let rest = tabulate source (j + 1) (n - (j + 1)) in
             sym (states-stopped js cap rest x h) ∙ ap (tryStates js cap rest) (sym e) ∙ after c
 
-        pub building-full : {l : ℕ} → r ≡ Full l → Built (Full l) table′ seen′
+        pub building-full : {l : ℕ} → r ≡ Full l → Built (Full l) table′ seen′ heads′
         building-full {l} e =
             (record { same = λ c. stays (full l) tt c (ap (λ (z : Step). progressOf m k (observedOf k seen′) c z half) e); sound = tt; observed = leaves .observed }, framed)
 
-        pub building-late : {i early last : ℕ} → r ≡ Late i early last → Built (Late i early last) table′ seen′
+        pub building-late : {i early last : ℕ} → r ≡ Late i early last → Built (Late i early last) table′ seen′ heads′
         building-late {i} {early} {last} e =
             (record { same = λ c. stays (miss i early last) tt c (ap (λ (z : Step). progressOf m k (observedOf k seen′) c z half) e); sound = tt; observed = leaves .observed }, framed)

@@ -101,8 +101,8 @@ module _ {rows : List ℕ} {k m cap : ℕ} {table₀ table seen : List ℕ} {fro
       let e : level ≡ length js = omega (arith, before .upto, length-jobs rows k) in
       (ap answerOf (before .same ∙ ap (explored js m cap) e), (before .observed, before .past))
 
-  module _ {r : Step} {table′ seen′ : List ℕ} (more : level < k) (kept : length table′ ≡ length table)
-      (leaves : Leaves js m k cap (λ c. tryStates js cap (statesOf m k (part from size table) n) (going [] (observedOf k seen) c)) r (part to size table′) seen′)
+  module _ {r : Step} {table′ seen′ heads : List ℕ} (more : level < k) (kept : length table′ ≡ length table)
+      (leaves : Leaves js m k cap (λ c. tryStates js cap (statesOf m k (part from size table) n) (going [] (observedOf k seen) c)) r (part to size table′) seen′ heads)
       (frame : table′ ≡ putMid to size table (part to size table′)) where
     next : counted (progressOf m k (observedOf k seen′) count r (part to size table′)) ≡ explored js m cap (level + 1)
     unfolding nextLevel
@@ -115,7 +115,7 @@ module _ {rows : List ℕ} {k m cap : ℕ} {table₀ table seen : List ℕ} {fro
 
     module _ {x : ℕ} (e : r ≡ Going x) where
       half : Half js m k cap (part to size table′) x
-      half = subst (λ (z : Step). HalfAt js m k cap z (part to size table′)) e (leaves .sound)
+      half = subst (λ (z : Step). HalfAt js m k cap z (part to size table′) heads) e (leaves .sound) .0
 
       few : count + x ≤ 1 + (level + 1) * cap
       few = omega (arith, ap (λ (z : ℕ). z * cap) (add-one level) ∙ suc-mul level cap, before .few, half .room)

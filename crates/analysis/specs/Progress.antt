@@ -10,6 +10,7 @@ use Rattle.model.specs.Edges.{eligible, earliestStart, earliestFinish, latestFi
 use Rattle.model.specs.Exploration.{Exploration, going, full, miss, stateWords}
 use Rattle.jobs.specs.Rows.{jobsOf, Setting}
 use Rattle.states.specs.Slots.{statesOf, Sound, AllSound}
+use Rattle.store.specs.Half.{Indexed}
 use Rattle.analysis.specs.Observed.{observedOf, Observed}
 use Rattle.analysis.specs.declared.Step.{Step}
 use Rattle.analysis.specs.declared.Step.the-variants.{Going, Full, Late}
@@ -26,23 +27,27 @@ pub record Half (js : List Job) (m k cap : ℕ) (half : List ℕ) (n : ℕ) : Ty
   pub room : n ≤ cap
   pub sound : AllSound js m k half n
 
-abbrev pub HalfAt : List Job → ℕ → ℕ → ℕ → Step → List ℕ → Type 0
-HalfAt js m k cap (Going n) half = Half js m k cap half n
-HalfAt js m k cap (Full l) half = Unit {0}
-HalfAt js m k cap (Late i e f) half = Unit {0}
+-- the half of the level that is built, with its index
+abbrev pub Target : List Job → ℕ → ℕ → ℕ → List ℕ → List ℕ → ℕ → Type 0
+Target js m k cap half heads n = Half js m k cap half n × Indexed m k half n heads
+
+abbrev pub HalfAt : List Job → ℕ → ℕ → ℕ → Step → List ℕ → List ℕ → Type 0
+HalfAt js m k cap (Going n) half heads = Target js m k cap half heads n
+HalfAt js m k cap (Full l) half heads = Unit {0}
+HalfAt js m k cap (Late i e f) half heads = Unit {0}
 
 -- what a step leaves: the words say what the definition's next exploration says, and can be gone on from
-pub record Leaves (js : List Job) (m k cap : ℕ) (next : ℕ → Exploration) (r : Step) (half seen : List ℕ) : Type 0 where
+pub record Leaves (js : List Job) (m k cap : ℕ) (next : ℕ → Exploration) (r : Step) (half seen heads : List ℕ) : Type 0 where
   pub same : (c : ℕ) → progressOf m k (observedOf k seen) c r half ≡ next c
-  pub sound : HalfAt js m k cap r half
+  pub sound : HalfAt js m k cap r half heads
   pub observed : Observed k seen
 
--- what is given where the edges of a state are explored: the jobs, the state, the half of the next level, and the observed ranges
-pub record Explores (rows : List ℕ) (k m cap : ℕ) (cur half : List ℕ) (n : ℕ) (seen : List ℕ) : Type 0 where
+-- what is given where the edges of a state are explored: the jobs, the state, the half of the next level and its index, and the observed ranges
+pub record Explores (rows : List ℕ) (k m cap : ℕ) (cur half : List ℕ) (n : ℕ) (seen heads : List ℕ) : Type 0 where
   pub setting : Setting rows k m
   pub words : stateWords m k ≤ length cur
   pub sound : Sound (jobsOf rows k) m k cur
-  pub half-of : Half (jobsOf rows k) m k cap half n
+  pub target : Target (jobsOf rows k) m k cap half heads n
   pub observed : Observed k seen
 
 -- job i is eligible, and starts and finishes at these moments

@@ -10,7 +10,7 @@ ghost use Rattle.states.specs.Slots.{stateOf, statesOf, Sound};
 ghost use Rattle.edges.specs.Edges.{edgeOf, candidates};
 ghost use Rattle.edges.specs.declared.Edge.the-variants.{Starts};
 ghost use Rattle.analysis.specs.Observed.{observedOf, Observed};
-ghost use Rattle.analysis.specs.Progress.{Half, Leaves, Explores, Follows};
+ghost use Rattle.analysis.specs.Progress.{Target, Leaves, Explores, Follows};
 use crate::Step;
 use crate::observed::observe;
 use crate::successor::store_successor;
@@ -26,6 +26,7 @@ use jobs::most_execution;
 pub fn follow(
     half: &mut [u32],
     seen: &mut [u32],
+    heads: &mut [usize],
     n: usize,
     cap: usize,
     rows: &[u32],
@@ -37,23 +38,24 @@ pub fn follow(
     e: u32,
     f: u32,
 ) -> Step
-    requires { ⌜ (i < k) × Explores (now rows) k m cap (now cur) (now half) n (now seen)
+    requires { ⌜ (i < k) × Explores (now rows) k m cap (now cur) (now half) n (now seen) (now heads)
         × Follows (jobsOf (now rows) k) (stateOf m k (now cur)) i s e f ⌝ }
     ensures { λ r. ⌜ Leaves (jobsOf (now (rows .entry)) k) m k cap
         (addEdge (jobsOf (now (rows .entry)) k) cap (stateOf m k (now (cur .entry))) i (statesOf m k (now (half .entry)) n)
-        (observedOf k (now (seen .entry)))) r (now (half .exit)) (now (seen .exit)) ⌝ }
+        (observedOf k (now (seen .entry)))) r (now (half .exit)) (now (seen .exit)) (now (heads .exit)) ⌝ }
 {
     observe(seen, k, i, e, f);
     if deadline(rows, k, i) < f {
         return Step::Late(i, e, f);
     }
-    store_successor(half, n, cap, cur, m, k, i, s, e, f)
+    store_successor(half, heads, n, cap, cur, m, k, i, s, e, f)
 }
 
 // Adds the edge of job i, which starts from s to t.
 pub fn add_edge(
     half: &mut [u32],
     seen: &mut [u32],
+    heads: &mut [usize],
     n: usize,
     cap: usize,
     rows: &[u32],
@@ -64,21 +66,22 @@ pub fn add_edge(
     s: u32,
     t: u32,
 ) -> Step
-    requires { ⌜ (i < k) × Explores (now rows) k m cap (now cur) (now half) n (now seen)
+    requires { ⌜ (i < k) × Explores (now rows) k m cap (now cur) (now half) n (now seen) (now heads)
         × (edgeOf (jobsOf (now rows) k) (stateOf m k (now cur)) i ≡ Starts s t) ⌝ }
     ensures { λ r. ⌜ Leaves (jobsOf (now (rows .entry)) k) m k cap
         (λ c. tryJob (jobsOf (now (rows .entry)) k) cap (stateOf m k (now (cur .entry))) i
-        (going (statesOf m k (now (half .entry)) n) (observedOf k (now (seen .entry))) c)) r (now (half .exit)) (now (seen .exit)) ⌝ }
+        (going (statesOf m k (now (half .entry)) n) (observedOf k (now (seen .entry))) c)) r (now (half .exit)) (now (seen .exit)) (now (heads .exit)) ⌝ }
 {
     let e = s + least_execution(rows, k, i);
     let f = t + most_execution(rows, k, i);
-    follow(half, seen, n, cap, rows, k, cur, m, i, s, e, f)
+    follow(half, seen, heads, n, cap, rows, k, cur, m, i, s, e, f)
 }
 
 // Candidate i of one state: an edge where it is eligible.
 pub fn try_job(
     half: &mut [u32],
     seen: &mut [u32],
+    heads: &mut [usize],
     n: usize,
     cap: usize,
     rows: &[u32],
@@ -89,24 +92,25 @@ pub fn try_job(
     bound: u32,
     i: usize,
 ) -> Step
-    requires { ⌜ (i < k) × Explores (now rows) k m cap (now cur) (now half) n (now seen)
+    requires { ⌜ (i < k) × Explores (now rows) k m cap (now cur) (now half) n (now seen) (now heads)
         × (now list ≡ candidates (jobsOf (now rows) k) (stateOf m k (now cur)) k)
         × (candidate (jobsOf (now rows) k) (stateOf m k (now cur)) i ≡ true)
         × (bound ≡ workConservingBound (jobsOf (now rows) k) (stateOf m k (now cur))) ⌝ }
     ensures { λ r. ⌜ Leaves (jobsOf (now (rows .entry)) k) m k cap
         (λ c. tryJob (jobsOf (now (rows .entry)) k) cap (stateOf m k (now (cur .entry))) i
-        (going (statesOf m k (now (half .entry)) n) (observedOf k (now (seen .entry))) c)) r (now (half .exit)) (now (seen .exit)) ⌝ }
+        (going (statesOf m k (now (half .entry)) n) (observedOf k (now (seen .entry))) c)) r (now (half .exit)) (now (seen .exit)) (now (heads .exit)) ⌝ }
 {
     let Edge::Starts(s, t) = edge_of(rows, k, cur, m, list, bound, i) else {
         return Step::Going(n);
     };
-    add_edge(half, seen, n, cap, rows, k, cur, m, i, s, t)
+    add_edge(half, seen, heads, n, cap, rows, k, cur, m, i, s, t)
 }
 
 // Every candidate of one state, by rising number. The other jobs have no edge.
 pub fn try_jobs(
     half: &mut [u32],
     seen: &mut [u32],
+    heads: &mut [usize],
     n: usize,
     cap: usize,
     rows: &[u32],
@@ -116,18 +120,31 @@ pub fn try_jobs(
     list: &[u32],
     bound: u32,
 ) -> Step
-    requires { ⌜ Explores (now rows) k m cap (now cur) (now half) n (now seen)
+    requires { ⌜ Explores (now rows) k m cap (now cur) (now half) n (now seen) (now heads)
         × (now list ≡ candidates (jobsOf (now rows) k) (stateOf m k (now cur)) k)
         × (bound ≡ workConservingBound (jobsOf (now rows) k) (stateOf m k (now cur))) ⌝ }
     ensures { λ r. ⌜ Leaves (jobsOf (now (rows .entry)) k) m k cap
         (λ c. tryJobs (jobsOf (now (rows .entry)) k) cap (stateOf m k (now (cur .entry))) k
-        (going (statesOf m k (now (half .entry)) n) (observedOf k (now (seen .entry))) c)) r (now (half .exit)) (now (seen .exit)) ⌝ }
+        (going (statesOf m k (now (half .entry)) n) (observedOf k (now (seen .entry))) c)) r (now (half .exit)) (now (seen .exit)) (now (heads .exit)) ⌝ }
 {
     let mut stored = n;
     let mut t = 0;
     while t < list.len() {
         let i = list[t] as usize;
-        match try_job(half, seen, stored, cap, rows, k, cur, m, list, bound, i) {
+        match try_job(
+            half,
+            seen,
+            heads,
+            stored,
+            cap,
+            rows,
+            k,
+            cur,
+            m,
+            list,
+            bound,
+            i,
+        ) {
             Step::Going(x) => {
                 stored = x;
             }
@@ -147,6 +164,7 @@ pub fn try_jobs(
 pub fn try_state(
     half: &mut [u32],
     seen: &mut [u32],
+    heads: &mut [usize],
     n: usize,
     cap: usize,
     rows: &[u32],
@@ -155,13 +173,25 @@ pub fn try_state(
     m: usize,
 ) -> Step
     requires { ⌜ Setting (now rows) k m × (stateWords m k ≤ length (now cur)) × Sound (jobsOf (now rows) k) m k (now cur)
-        × Half (jobsOf (now rows) k) m k cap (now half) n × Observed k (now seen) ⌝ }
+        × Target (jobsOf (now rows) k) m k cap (now half) (now heads) n × Observed k (now seen) ⌝ }
     ensures { λ r. ⌜ Leaves (jobsOf (now (rows .entry)) k) m k cap
         (λ c. tryJobs (jobsOf (now (rows .entry)) k) cap (stateOf m k (now (cur .entry))) k
-        (going (statesOf m k (now (half .entry)) n) (observedOf k (now (seen .entry))) c)) r (now (half .exit)) (now (seen .exit)) ⌝ }
+        (going (statesOf m k (now (half .entry)) n) (observedOf k (now (seen .entry))) c)) r (now (half .exit)) (now (seen .exit)) (now (heads .exit)) ⌝ }
 {
     let mut list = [0u32; 64];
     let listed = list_candidates(rows, k, cur, m, &mut list);
     let bound = work_conserving_bound(rows, k, cur, m, &list[..listed]);
-    try_jobs(half, seen, n, cap, rows, k, cur, m, &list[..listed], bound)
+    try_jobs(
+        half,
+        seen,
+        heads,
+        n,
+        cap,
+        rows,
+        k,
+        cur,
+        m,
+        &list[..listed],
+        bound,
+    )
 }

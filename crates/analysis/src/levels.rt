@@ -8,6 +8,7 @@ ghost use Rattle.model.specs.Exploration.{stateWords, capacity, going, tryState
 ghost use Rattle.words.proofs.Parts.{part};
 ghost use Rattle.jobs.specs.Rows.{Setting, jobsOf};
 ghost use Rattle.states.specs.Slots.{statesOf};
+ghost use Rattle.store.specs.Half.{buckets};
 ghost use Rattle.analysis.specs.Observed.{observedWords, observedOf, Observed};
 ghost use Rattle.analysis.specs.Progress.{Half, Leaves};
 ghost use Rattle.analysis.specs.Outcomes.{Halves, answerIn};
@@ -16,6 +17,7 @@ use crate::explore::try_state;
 use crate::successor::MOST_STATE_WORDS;
 use crate::successor::load_state;
 use states::state_words;
+use store::BUCKETS;
 use words::clear;
 
 // What the analysis ends with.
@@ -33,6 +35,7 @@ pub enum Outcome {
 pub fn build_level(
     table: &mut [u32],
     seen: &mut [u32],
+    heads: &mut [usize],
     from: usize,
     to: usize,
     n: usize,
@@ -42,10 +45,11 @@ pub fn build_level(
     m: usize,
 ) -> Step
     requires { ⌜ Setting (now rows) k m × Halves (length (now table)) (cap * stateWords m k) from to
-        × Half (jobsOf (now rows) k) m k cap (part from (cap * stateWords m k) (now table)) n × Observed k (now seen) ⌝ }
+        × Half (jobsOf (now rows) k) m k cap (part from (cap * stateWords m k) (now table)) n × Observed k (now seen)
+        × (length (now heads) ≡ buckets) ⌝ }
     ensures { λ r. ⌜ Leaves (jobsOf (now (rows .entry)) k) m k cap
         (λ c. tryStates (jobsOf (now (rows .entry)) k) cap (statesOf m k (part from (cap * stateWords m k) (now (table .entry))) n)
-        (going [] (observedOf k (now (seen .entry))) c)) r (part to (cap * stateWords m k) (now (table .exit))) (now (seen .exit)) ⌝ }
+        (going [] (observedOf k (now (seen .entry))) c)) r (part to (cap * stateWords m k) (now (table .exit))) (now (seen .exit)) (now (heads .exit)) ⌝ }
     ensures { λ _. ⌜ now (table .exit) ≡ putMid to (cap * stateWords m k) (now (table .entry))
         (part to (cap * stateWords m k) (now (table .exit))) ⌝ }
 {
@@ -58,7 +62,17 @@ pub fn build_level(
         let at = from + j * w;
         let next = at + w;
         load_state(&mut cur, &table[at..next], m, k);
-        match try_state(&mut table[to..end], seen, built, cap, rows, k, &cur, m) {
+        match try_state(
+            &mut table[to..end],
+            seen,
+            heads,
+            built,
+            cap,
+            rows,
+            k,
+            &cur,
+            m,
+        ) {
             Step::Going(x) => {
                 built = x;
             }
@@ -97,8 +111,9 @@ pub fn climb_levels(
     let mut n = 1;
     let mut count = 1u64;
     let mut level = 0;
+    let mut heads = [0usize; BUCKETS];
     while level < k {
-        match build_level(table, seen, from, to, n, cap, rows, k, m) {
+        match build_level(table, seen, &mut heads, from, to, n, cap, rows, k, m) {
             Step::Going(x) => {
                 n = x;
                 count += x as u64;

@@ -11,7 +11,7 @@ ghost use Rattle.model.specs.Exploration.{stateWords, limited, stored};
 ghost use Rattle.model.proofs.Bounds.{Bounded};
 ghost use Rattle.states.specs.Slots.{setOf, stateOf, statesOf};
 ghost use Rattle.slots.specs.Writing.{withStart};
-ghost use Rattle.store.specs.Half.{SetsFit};
+ghost use Rattle.store.specs.Half.{SetsFit, Indexed};
 ghost use Rattle.analysis.specs.Progress.{progressOf, Half, HalfAt};
 use crate::Step;
 use slots::start_job;
@@ -53,9 +53,10 @@ pub fn write_successor(
     start_job(new, m, k, i, s, e, f);
 }
 
-// Stores the state that follows `cur` in the half, which holds n states and has room for cap.
+// Stores the state that follows `cur` in the half, which holds n states, has room for cap, and has an index.
 pub fn store_successor(
     half: &mut [u32],
+    heads: &mut [usize],
     n: usize,
     cap: usize,
     cur: &[u32],
@@ -68,16 +69,16 @@ pub fn store_successor(
 ) -> Step
     requires { ⌜ (i < k) × (k ≤ mostJobs) × (1 ≤ m) × (m ≤ mostCores) × (stateWords m k ≤ length (now cur)) × (setOf (now cur) < 2 ^ k)
         × (started (stateOf m k (now cur)) i ≡ false) ⌝ }
-    requires { ⌜ (cap * stateWords m k ≤ length (now half)) × (n ≤ cap) × SetsFit m k (now half) n ⌝ }
+    requires { ⌜ (cap * stateWords m k ≤ length (now half)) × (n ≤ cap) × SetsFit m k (now half) n × Indexed m k (now half) n (now heads) ⌝ }
     ensures { λ r. ⌜ ((seen : List Range) (c : ℕ) → progressOf m k seen c r (now (half .exit))
         ≡ limited cap (withStart (stateOf m k (now (cur .entry))) i s e f)
         (stored (withStart (stateOf m k (now (cur .entry))) i s e f) (statesOf m k (now (half .entry)) n)) seen c) ⌝ }
     ensures { λ r. ⌜ ((js : List Job) → Half js m k cap (now (half .entry)) n
-        → Bounded js latestTime (withStart (stateOf m k (now (cur .entry))) i s e f) → HalfAt js m k cap r (now (half .exit))) ⌝ }
+        → Bounded js latestTime (withStart (stateOf m k (now (cur .entry))) i s e f) → HalfAt js m k cap r (now (half .exit)) (now (heads .exit))) ⌝ }
 {
     let mut new = [0u32; MOST_STATE_WORDS];
     write_successor(&mut new, cur, m, k, i, s, e, f);
-    match store_state(half, n, cap, &new, m, k) {
+    match store_state(half, heads, n, cap, &new, m, k) {
         Stored::At(stored) => Step::Going(stored),
         Stored::Full => Step::Full(level_of(&new, m, k)),
     }

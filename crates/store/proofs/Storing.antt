@@ -117,6 +117,17 @@ module _ (m k : ℕ) (half new : List ℕ) (n cap : ℕ) (room : cap * stateWord
   kept : (i j : ℕ) (out : List ℕ) → OthersKept m k j half out → i < n → (i ≡ j → ⊥) → slotOf m k out i ≡ slotOf m k half i
   kept i j out o b ne = o i ne (omega (arith, slot-fits i cap (stateWords m k) (omega arith)))
 
+  pub slots-kept : (out : List ℕ) → OthersKept m k n half out → (i : ℕ) → i < n → slotOf m k out i ≡ slotOf m k half i
+  slots-kept out o i g = kept i n out o g (λ (z : i ≡ n). omega (arith, z, g))
+
+  -- a merge keeps every set
+  pub sets-kept : (j : ℕ) (out : List ℕ) → setOf (slotOf m k out j) ≡ setOf (slotOf m k half j) → OthersKept m k j half out → (i : ℕ) → i < n → setOf (slotOf m k out i) ≡ setOf (slotOf m k half i)
+  sets-kept j out e o i b = go (ℕ-discrete i j)
+    where
+      go : Dec (i ≡ j) → setOf (slotOf m k out i) ≡ setOf (slotOf m k half i)
+      go (yes z) = rw z e
+      go (no z) = ap setOf (kept i j out o b z)
+
   in-room : (out : List ℕ) (count : ℕ) → statesOf m k out count ≡ stored state states → count ≤ cap → (seen : List Range) (c : ℕ) → going (statesOf m k out count) seen c ≡ limited cap state (stored state states) seen c
   unfolding limited
   in-room out count e h seen c =
@@ -148,7 +159,7 @@ module _ (m k : ℕ) (half new : List ℕ) (n cap : ℕ) (room : cap * stateWord
     added-outcome out b p o = (in-room out (n + 1) level (omega arith), λ js a s. (omega arith, below-more (λ (i : ℕ). Sound js m k (slotOf m k out i)) n (λ i g. rw (same i g) (a i g)) (sound js s)))
       where
         same : (i : ℕ) → i < n → slotOf m k out i ≡ slotOf m k half i
-        same i g = kept i n out o g (λ (z : i ≡ n). omega (arith, z, g))
+        same = slots-kept out o
 
         level : statesOf m k out (n + 1) ≡ stored state states
         level = states-more m k half n out state (ap (stateOf m k) p ∙ take-state m k new) same ∙ sym last

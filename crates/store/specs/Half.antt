@@ -1,9 +1,9 @@
--- What a half of the table holds before and after a state is stored in it. Assumes nothing.
-use Prim.Native.Nat.{ℕ, _+_, _*_, _^_, _≤_, _<_}
+-- What a half of the table holds before and after a state is stored in it, and the index by which stored states are found. Assumes nothing.
+use Prim.Native.Nat.{ℕ, _+_, _*_, _%_, _^_, _≤_, _<_}
 use mathlib.Core.Path.{_≡_}
 use mathlib.Core.Bool.{true, false}
 use mathlib.Core.List.{List}
-use lib.ListN.{length}
+use lib.ListN.{getD, length}
 use Rattle.model.specs.Jobs.{Job}
 use Rattle.model.specs.States.{Range, State, level}
 use Rattle.model.specs.Exploration.{mergeable, Exploration, going, full, stateWords}
@@ -38,3 +38,32 @@ pub record FirstMerging (m k : ℕ) (half : List ℕ) (n : ℕ) (new : List ℕ)
 -- every slot but j has its words
 abbrev pub OthersKept : ℕ → ℕ → ℕ → List ℕ → List ℕ → Type 0
 OthersKept m k j ws vs = (i : ℕ) → (i ≡ j → ⊥) → i * stateWords m k + stateWords m k ≤ length ws → slotOf m k vs i ≡ slotOf m k ws i
+
+-- ---- the index of a level
+
+-- A state is looked for from the first one on whose set falls into the same bucket.
+abbrev pub buckets : ℕ
+buckets = 2039
+
+abbrev pub bucketOf : ℕ → ℕ
+bucketOf set = set % buckets
+
+abbrev pub bucketAt : ℕ → ℕ → List ℕ → ℕ → ℕ
+bucketAt m k ws j = bucketOf (setOf (slotOf m k ws j))
+
+-- The head of a bucket that has states is the slot of its first. That of an empty one is any number, so that no level begins with clearing them: it is told
+-- from the others because no state of the bucket stands there.
+pub record Indexed (m k : ℕ) (ws : List ℕ) (n : ℕ) (heads : List ℕ) : Type 0 where
+  pub long : length heads ≡ buckets
+  pub not-after : (j : ℕ) → j < n → getD heads (bucketAt m k ws j) 0 ≤ j
+  pub in-place : (j : ℕ) → j < n → bucketAt m k ws (getD heads (bucketAt m k ws j) 0) ≡ bucketAt m k ws j
+
+abbrev pub IndexedAt : ℕ → ℕ → Stored → List ℕ → List ℕ → Type 0
+IndexedAt m k (At n) ws heads = Indexed m k ws n heads
+IndexedAt m k Full ws heads = Unit {0}
+
+-- r is the first of n states of bucket b, and then the bucket's head, or n
+pub record FirstOf (m k : ℕ) (ws : List ℕ) (n : ℕ) (heads : List ℕ) (b r : ℕ) : Type 0 where
+  pub inside : r ≤ n
+  pub none-before : (j : ℕ) → j < r → bucketAt m k ws j ≡ b → ⊥
+  pub is-head : r < n → (bucketAt m k ws r ≡ b) × (getD heads b 0 ≡ r)

@@ -1,4 +1,4 @@
-// A level of states, stored in a half of the table.
+// A level of states, stored in a half of the table, with an index by their sets.
 ghost use mathlib.Core.Path.{_≡_};
 ghost use mathlib.Core.List.{List};
 ghost use Prim.Native.Nat.{ℕ, _+_, _*_, _^_, _≤_, _<_};
@@ -8,9 +8,10 @@ ghost use Rattle.model.specs.Limits.{mostCores, mostJobs};
 ghost use Rattle.model.specs.States.{Range};
 ghost use Rattle.model.specs.Exploration.{merge, stored, limited, stateWords};
 ghost use Rattle.states.specs.Slots.{setOf, stateOf, slotOf, statesOf, Sound, AllSound};
-ghost use Rattle.store.specs.Half.{levelOf, SoundAt, SetsFit, FirstMerging, OthersKept};
+ghost use Rattle.store.specs.Half.{levelOf, SoundAt, SetsFit, NoneMerges, FirstMerging, OthersKept, buckets, bucketOf, Indexed, IndexedAt, FirstOf};
 use slots::can_merge;
 use slots::merge_into;
+use states::started_set;
 use states::state_words;
 use words::copy;
 
@@ -21,14 +22,41 @@ pub enum Stored {
     Full,
 }
 
-// The first of n stored states that can merge with the new one, or n.
-fn find_merging(half: &[u32], n: usize, new: &[u32], m: usize, k: usize) -> usize
+// The number of buckets of the index: a prime, so that sets which differ in few jobs fall apart.
+pub const BUCKETS: usize = 2039;
+
+fn bucket_of(set: u64) -> usize
+    ensures { λ r. ⌜ r ≡ bucketOf set ⌝ }
+{
+    (set % (BUCKETS as u64)) as usize
+}
+
+// The first of n stored states whose set is in bucket b, or n.
+fn first_of(half: &[u32], heads: &[usize], n: usize, b: usize, m: usize, k: usize) -> usize
+    requires { ⌜ (m ≤ mostCores) × (k ≤ mostJobs) × (n * stateWords m k ≤ length (now half)) × (b < buckets) × Indexed m k (now half) n (now heads) ⌝ }
+    ensures { λ r. ⌜ FirstOf m k (now (half .entry)) n (now (heads .entry)) b r ⌝ }
+{
+    let head = heads[b];
+    if n <= head {
+        return n;
+    }
+    let w = state_words(m, k);
+    let at = head * w;
+    let end = at + w;
+    if bucket_of(started_set(&half[at..end])) != b {
+        return n;
+    }
+    head
+}
+
+// The first of n stored states that can merge with the new one, or n. None before state `from` can.
+fn find_merging(half: &[u32], n: usize, from: usize, new: &[u32], m: usize, k: usize) -> usize
     requires { ⌜ (m ≤ mostCores) × (k ≤ mostJobs) × (n * stateWords m k ≤ length (now half)) × (stateWords m k ≤ length (now new))
-        × SetsFit m k (now half) n × (setOf (now new) < 2 ^ k) ⌝ }
+        × SetsFit m k (now half) n × (setOf (now new) < 2 ^ k) × (from ≤ n) × NoneMerges m k (now half) (now new) from ⌝ }
     ensures { λ r. ⌜ FirstMerging m k (now (half .entry)) n (now (new .entry)) r ⌝ }
 {
     let w = state_words(m, k);
-    let mut j = 0;
+    let mut j = from;
     while j < n {
         let at = j * w;
         let end = at + w;
@@ -71,6 +99,7 @@ fn put_at(half: &mut [u32], j: usize, new: &[u32], m: usize, k: usize)
 // Merges the new state with the first of n stored ones with which it can, or stores it last, where the half has room for cap states.
 pub fn store_state(
     half: &mut [u32],
+    heads: &mut [usize],
     n: usize,
     cap: usize,
     new: &[u32],
@@ -78,19 +107,23 @@ pub fn store_state(
     k: usize,
 ) -> Stored
     requires { ⌜ (m ≤ mostCores) × (k ≤ mostJobs) × (cap * stateWords m k ≤ length (now half)) × (n ≤ cap) × (stateWords m k ≤ length (now new))
-        × SetsFit m k (now half) n × (setOf (now new) < 2 ^ k) ⌝ }
+        × SetsFit m k (now half) n × (setOf (now new) < 2 ^ k) × Indexed m k (now half) n (now heads) ⌝ }
     ensures { λ r. ⌜ ((seen : List Range) (c : ℕ) → levelOf m k (stateOf m k (now (new .entry))) seen c r (now (half .exit))
         ≡ limited cap (stateOf m k (now (new .entry))) (stored (stateOf m k (now (new .entry))) (statesOf m k (now (half .entry)) n)) seen c) ⌝ }
     ensures { λ r. ⌜ ((js : List Job) → AllSound js m k (now (half .entry)) n → Sound js m k (now (new .entry))
         → SoundAt js m k cap r (now (half .exit))) ⌝ }
+    ensures { λ r. ⌜ IndexedAt m k r (now (half .exit)) (now (heads .exit)) ⌝ }
 {
-    let j = find_merging(half, n, new, m, k);
+    let b = bucket_of(started_set(new));
+    let from = first_of(half, heads, n, b, m, k);
+    let j = find_merging(half, n, from, new, m, k);
     if j < n {
         merge_at(half, j, new, m, k);
         return Stored::At(n);
     }
     if n < cap {
         put_at(half, n, new, m, k);
+        heads[b] = from;
         return Stored::At(n + 1);
     }
     Stored::Full

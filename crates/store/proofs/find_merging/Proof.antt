@@ -15,10 +15,10 @@ use Rattle.store.proofs.find_merging.Statement.{statement}
 use Rattle.store.proofs.find_merging.Tie as tie
 
 abbrev Inv-loop : tie.InvT-loop
-Inv-loop half n new m k w j₀ j = (j ≤ n) × NoneMerges m k half new j
+Inv-loop half n from new m k w j₀ j = (j ≤ n) × NoneMerges m k half new j
 
 abbrev μ-loop : tie.MeasureT-loop
-μ-loop half n new m k w j₀ j = n - j
+μ-loop half n from new m k w j₀ j = n - j
 
 within : (c : tie.In-loop Inv-loop μ-loop) → c .before .loop .j * c .before .before .state-words .result + c .before .before .state-words .result ≤ length (now (c .before .before .before .before .before .args .half))
 within c =
@@ -37,7 +37,7 @@ state-words-requires : tie.Need-state-words-requires Inv-loop μ-loop
 state-words-requires c κs = search needs
 
 loop-holds : tie.Need-loop-holds Inv-loop μ-loop
-loop-holds c = (omega arith, λ j b. absurd (omega arith))
+loop-holds c = (c .before .before .before .pre .6, c .before .before .before .pre .7)
 
 mul-at : tie.Need-mul-at Inv-loop μ-loop
 mul-at c = omega (arith, within c)

@@ -1,29 +1,64 @@
 -- `store::store_state` meets its contract. Assumes nothing.
-use mathlib.Core.Path.{_≡_}
+use mathlib.Core.Path.{_≡_, sym, ap, _∙_}
 use native.Mathlib.Nat.{mul-le-mul-right}
 use native.Mathlib.Omega.{arith}
 use denote.Ref.{now}
-use Rattle.model.specs.Exploration.{stateWords}
-use Rattle.store.specs.Half.{NoneMerges}
-use Rattle.store.proofs.Storing.{slot-fits, one-set, merged-outcome, added-outcome, full-outcome}
 use borrow.Author.Needs.{needs}
+use Rattle.model.specs.Exploration.{stateWords}
+use Rattle.states.specs.Slots.{setOf}
+use Rattle.slots.proofs.Frames.{take-set}
+use Rattle.store.specs.Half.{NoneMerges, bucketOf, FirstOf}
+use Rattle.store.proofs.Storing.{slot-fits, one-set, merged-outcome, added-outcome, full-outcome, sets-kept, slots-kept}
+use Rattle.store.proofs.Indexing.{bucket-inside, none-merges, indexed-same, indexed-more}
 use Rattle.store.proofs.store_state.Statement.{statement}
 use Rattle.store.proofs.store_state.Tie as tie
 
-none : (c : tie.Else1) → NoneMerges (c .before .before .before .before .before .args .m) (c .before .before .before .before .before .args .k) (now (c .before .before .before .before .before .args .half)) (now (c .before .before .before .before .before .args .new)) (c .before .before .before .before .before .args .n)
-none c =
-    let f = c .before .find-merging in
-    let e : f .result ≡ c .before .before .before .before .before .args .n = omega (arith, f .ensures .inside, c .if1 .left) in
-    rw e at (f .ensures .none-before)
+started-set-requires : tie.Need-started-set-requires
+started-set-requires c κs = search needs
+
+bucket-of-requires : tie.Need-bucket-of-requires
+bucket-of-requires c κs = search needs
+
+-- the bucket of the new state
+bucket : (c : tie.After-bucket-of) → c .bucket-of .result ≡ bucketOf (setOf (now (c .before .before .before .before .before .args .new)))
+bucket c = c .bucket-of .ensures ∙ ap bucketOf (c .before .started-set .ensures)
+
+first-of-requires : tie.Need-first-of-requires
+first-of-requires c κs =
+    let a = c .before .before .before .before .before .before .before in (
+      a .pre .0,
+      a .pre .1,
+      omega (arith, a .pre .2, mul-le-mul-right (stateWords (a .args .m) (a .args .k)) (a .pre .3)),
+      omega (arith, bucket (c .before .before), bucket-inside (setOf (now (a .args .new)))),
+      a .pre .7,
+    )
+
+-- the first state of its bucket
+first : (c : tie.After-first-of) → FirstOf (c .before .before .before .before .before .before .before .before .args .m) (c .before .before .before .before .before .before .before .before .args .k) (now (c .before .before .before .before .before .before .before .before .args .half)) (c .before .before .before .before .before .before .before .before .args .n) (now (c .before .before .before .before .before .before .before .before .args .heads)) (bucketOf (setOf (now (c .before .before .before .before .before .before .before .before .args .new)))) (c .first-of .result)
+first c = rw (bucket (c .before .before .before)) at (c .first-of .ensures)
 
 find-merging-requires : tie.Need-find-merging-requires
 find-merging-requires c κs =
-    let a = c .before .before .before in
-    (a .pre .0, a .pre .1, omega (arith, a .pre .2, mul-le-mul-right (stateWords (a .args .m) (a .args .k)) (a .pre .3)), a .pre .4, a .pre .5, a .pre .6)
+    let a = c .before .before .before .before .before .before .before .before .before in (
+      a .pre .0,
+      a .pre .1,
+      omega (arith, a .pre .2, mul-le-mul-right (stateWords (a .args .m) (a .args .k)) (a .pre .3)),
+      a .pre .4,
+      a .pre .5,
+      a .pre .6,
+      c .before .first-of .ensures .inside,
+      none-merges (a .args .m) (a .args .k) (now (a .args .half)) (now (a .args .new)) (a .args .n) (now (a .args .heads)) (c .before .first-of .result) (a .pre .5) (a .pre .6) (first (c .before)),
+    )
+
+none : (c : tie.Else1) → NoneMerges (c .before .before .before .before .before .before .before .before .before .before .before .args .m) (c .before .before .before .before .before .before .before .before .before .before .before .args .k) (now (c .before .before .before .before .before .before .before .before .before .before .before .args .half)) (now (c .before .before .before .before .before .before .before .before .before .before .before .args .new)) (c .before .before .before .before .before .before .before .before .before .before .before .args .n)
+none c =
+    let f = c .before .find-merging in
+    let e : f .result ≡ c .before .before .before .before .before .before .before .before .before .before .before .args .n = omega (arith, f .ensures .inside, c .if1 .left) in
+    rw e at (f .ensures .none-before)
 
 merge-at-requires : tie.Need-merge-at-requires
 merge-at-requires c κs =
-    let a = c .before .before .before .before .before .before in
+    let a = c .before .before .before .before .before .before .before .before .before .before .before .before in
     let f = c .before .before .find-merging in (
       a .pre .0,
       a .pre .1,
@@ -35,49 +70,90 @@ merge-at-requires c κs =
 same-length : tie.Need-same-length
 same-length c = search needs
 
-returns : tie.Need-returns
-returns c =
-    let a = c .before .before .before .before .before .before .before .before .before in
-    let f = c .before .before .before .before .before .find-merging in
-    let x = c .before .before .merge-at in
-    merged-outcome (a .args .m) (a .args .k) (now (a .args .half)) (now (a .args .new)) (a .args .n) (a .args .cap) (a .pre .2) (a .pre .3) (f .result) (x .last .0) (f .ensures) (c .before .before .before .before .if1 .taken) (x .ensures .0 .0) (x .ensures .0 .1) (x .ensures .1)
-
-put-at-requires : tie.Need-put-at-requires
-put-at-requires c κs =
-    let a = c .before .before .before .before .before .before .before in
-    (a .pre .0, a .pre .1, omega (arith, a .pre .2, slot-fits (a .args .n) (a .args .cap) (stateWords (a .args .m) (a .args .k)) (c .before .if2 .taken)), a .pre .4)
-
-add-t17 : tie.Need-add-t17
-add-t17 c = search needs
-
 same-length-2 : tie.Need-same-length-2
 same-length-2 c = search needs
 
-returns-2 : tie.Need-returns-2
-returns-2 c =
-    let a = c .before .before .before .before .before .before .before .before .before .before in
-    let x = c .before .before .put-at in
-    added-outcome (a .args .m) (a .args .k) (now (a .args .half)) (now (a .args .new)) (a .args .n) (a .args .cap) (a .pre .2) (a .pre .3) (none (c .before .before .before .before .before)) (x .last .0) (c .before .before .before .before .if2 .taken) (x .ensures .0) (x .ensures .1)
+returns : tie.Need-returns
+returns c =
+    let a = c .before .before .before .before .before .before .before .before .before .before .before .before .before .before .before in
+    let f = c .before .before .before .before .before .find-merging in
+    let x = c .before .before .merge-at in
+    let same = one-set (a .args .m) (a .args .k) (now (a .args .half)) (now (a .args .new)) (a .args .n) (f .result) (a .pre .5) (a .pre .6) (f .ensures) (c .before .before .before .before .if1 .taken) in
+    let o = merged-outcome (a .args .m) (a .args .k) (now (a .args .half)) (now (a .args .new)) (a .args .n) (a .args .cap) (a .pre .2) (a .pre .3) (f .result) (x .last .0) (f .ensures) (c .before .before .before .before .if1 .taken) (x .ensures .0 .0) (x .ensures .0 .1) (x .ensures .1) in (
+      o .0,
+      (
+        o .1,
+        indexed-same (a .args .m) (a .args .k) (now (a .args .half)) (a .args .n) (now (a .args .heads)) (a .pre .7) (x .last .0)
+            (sets-kept (a .args .m) (a .args .k) (now (a .args .half)) (now (a .args .new)) (a .args .n) (a .args .cap) (a .pre .2) (a .pre .3) (f .result) (x .last .0) (x .ensures .0 .1 ∙ sym same) (x .ensures .1)),
+      ),
+    )
+
+put-at-requires : tie.Need-put-at-requires
+put-at-requires c κs =
+    let a = c .before .before .before .before .before .before .before .before .before .before .before .before .before in
+    (a .pre .0, a .pre .1, omega (arith, a .pre .2, slot-fits (a .args .n) (a .args .cap) (stateWords (a .args .m) (a .args .k)) (c .before .if2 .taken)), a .pre .4)
+
+mul-heads : tie.Need-mul-heads
+mul-heads c = search needs
+
+slice-write-heads : tie.Need-slice-write-heads
+slice-write-heads c = omega (arith, bucket (c .before .before .before .before .before .before .before .before .before .before .before), bucket-inside (setOf (now (c .before .before .before .before .before .before .before .before .before .before .before .before .before .before .before .before .args .new))), c .before .before .before .before .before .before .before .before .before .before .before .before .before .before .before .before .pre .7 .long)
+
+add-t25 : tie.Need-add-t25
+add-t25 c = search needs
 
 same-length-3 : tie.Need-same-length-3
 same-length-3 c = search needs
 
+same-length-4 : tie.Need-same-length-4
+same-length-4 c = search needs
+
+returns-2 : tie.Need-returns-2
+returns-2 c =
+    let a = c .before .before .before .before .before .before .before .before .before .before .before .before .before .before .before .before in
+    let x = c .before .before .put-at in
+    let o = added-outcome (a .args .m) (a .args .k) (now (a .args .half)) (now (a .args .new)) (a .args .n) (a .args .cap) (a .pre .2) (a .pre .3) (none (c .before .before .before .before .before)) (x .last .0) (c .before .before .before .before .if2 .taken) (x .ensures .0) (x .ensures .1) in (
+      o .0,
+      (
+        o .1,
+        rw (bucket (c .before .before .before .before .before .before .before .before .before .before .before))
+            (indexed-more (a .args .m) (a .args .k) (now (a .args .half)) (a .args .n) (now (a .args .heads)) (a .pre .7) (x .last .0) (setOf (now (a .args .new))) (c .before .before .before .before .before .before .before .before .first-of .result)
+            (slots-kept (a .args .m) (a .args .k) (now (a .args .half)) (now (a .args .new)) (a .args .n) (a .args .cap) (a .pre .2) (a .pre .3) (x .last .0) (x .ensures .1))
+            (ap setOf (x .ensures .0) ∙ take-set (a .args .m) (a .args .k) (now (a .args .new))) (first (c .before .before .before .before .before .before .before .before))),
+      ),
+    )
+
+same-length-5 : tie.Need-same-length-5
+same-length-5 c = search needs
+
+same-length-6 : tie.Need-same-length-6
+same-length-6 c = search needs
+
 returns-3 : tie.Need-returns-3
 returns-3 c =
-    let a = c .before .before .before .before .before .before in
-    full-outcome (a .args .m) (a .args .k) (now (a .args .half)) (now (a .args .new)) (a .args .n) (a .args .cap) (a .pre .2) (a .pre .3) (none (c .before)) (c .if2 .left)
+    let a = c .before .before .before .before .before .before .before .before .before .before .before .before in
+    let o = full-outcome (a .args .m) (a .args .k) (now (a .args .half)) (now (a .args .new)) (a .args .n) (a .args .cap) (a .pre .2) (a .pre .3) (none (c .before)) (c .if2 .left) in
+    (o .0, (o .1, tt))
 
 pub store-state-spec : {M : Type 1} → statement M
 store-state-spec =
     tie.close
     (tie.spec
+    started-set-requires
+    bucket-of-requires
+    first-of-requires
     find-merging-requires
     merge-at-requires
     same-length
+    same-length-2
     returns
     put-at-requires
-    add-t17
-    same-length-2
-    returns-2
+    mul-heads
+    slice-write-heads
+    add-t25
     same-length-3
+    same-length-4
+    returns-2
+    same-length-5
+    same-length-6
     returns-3)

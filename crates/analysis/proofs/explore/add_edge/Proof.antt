@@ -18,8 +18,8 @@ least-execution-requires c κs = search needs
 
 add-e : tie.Need-add-e
 add-e c =
-    let a = c .before .before .before .before .before .args in
-    let p = c .before .before .before .before .before .pre in
+    let a = c .before .before .before .before .before .before .args in
+    let p = c .before .before .before .before .before .before .pre in
     let fit = finishes-fit (now (a .rows)) (a .k) (a .m) (p .1 .setting) (a .i) (p .0) (stateOf (a .m) (a .k) (now (a .cur))) (a .s) (a .t) (p .1 .sound .bounded) (p .2) in
     omega (arith, fit .0, c .least-execution .ensures)
 
@@ -28,19 +28,19 @@ most-execution-requires c κs = search needs
 
 add-f : tie.Need-add-f
 add-f c =
-    let a = c .before .before .before .before .before .before .args in
-    let p = c .before .before .before .before .before .before .pre in
+    let a = c .before .before .before .before .before .before .before .args in
+    let p = c .before .before .before .before .before .before .before .pre in
     let fit = finishes-fit (now (a .rows)) (a .k) (a .m) (p .1 .setting) (a .i) (p .0) (stateOf (a .m) (a .k) (now (a .cur))) (a .s) (a .t) (p .1 .sound .bounded) (p .2) in
     omega (arith, fit .1, c .most-execution .ensures)
 
 -- the moments of the edge
 follows : (c : tie.After-most-execution) →
-    Follows (jobsOf (now (c .before .before .before .before .before .before .args .rows)) (c .before .before .before .before .before .before .args .k)) (stateOf (c .before .before .before .before .before .before .args .m) (c .before .before .before .before .before .before .args .k) (now (c .before .before .before .before .before .before .args .cur))) (c .before .before .before .before .before .before .args .i) (c .before .before .before .before .before .before .args .s)
-    (c .before .before .before .before .before .before .args .s + c .before .least-execution .result) (c .before .before .before .before .before .before .args .t + c .most-execution .result)
+    Follows (jobsOf (now (c .before .before .before .before .before .before .before .args .rows)) (c .before .before .before .before .before .before .before .args .k)) (stateOf (c .before .before .before .before .before .before .before .args .m) (c .before .before .before .before .before .before .before .args .k) (now (c .before .before .before .before .before .before .before .args .cur))) (c .before .before .before .before .before .before .before .args .i) (c .before .before .before .before .before .before .before .args .s)
+    (c .before .before .before .before .before .before .before .args .s + c .before .least-execution .result) (c .before .before .before .before .before .before .before .args .t + c .most-execution .result)
 unfolding earliestFinish latestFinish
 follows c =
-    let a = c .before .before .before .before .before .before .args in
-    let r = edge-starts (jobsOf (now (a .rows)) (a .k)) (stateOf (a .m) (a .k) (now (a .cur))) (a .i) (a .s) (a .t) (c .before .before .before .before .before .before .pre .2) in
+    let a = c .before .before .before .before .before .before .before .args in
+    let r = edge-starts (jobsOf (now (a .rows)) (a .k)) (stateOf (a .m) (a .k) (now (a .cur))) (a .i) (a .s) (a .t) (c .before .before .before .before .before .before .before .pre .2) in
     record {
       starts = r .0;
       start = r .1;
@@ -50,7 +50,7 @@ follows c =
 
 follow-requires : tie.Need-follow-requires
 follow-requires c κs =
-    let p = c .before .before .before .before .before .before .before .before .pre in (p .0, p .1, follows (c .before .before))
+    let p = c .before .before .before .before .before .before .before .before .before .before .pre in (p .0, p .1, follows (c .before .before .before))
 
 same-length : tie.Need-same-length
 same-length c = search needs
@@ -58,11 +58,14 @@ same-length c = search needs
 same-length-2 : tie.Need-same-length-2
 same-length-2 c = search needs
 
+same-length-3 : tie.Need-same-length-3
+same-length-3 c = search needs
+
 returns : tie.Need-returns
 returns c =
-    let a = c .before .before .before .before .before .before .before .before .before .before .before .before .before .args in
-    let p = c .before .before .before .before .before .before .before .before .before .before .before .before .before .pre in
-    let x = c .before .before .before .before .follow .ensures in
+    let a = c .before .before .before .before .before .before .before .before .before .before .before .before .before .before .before .before .before .args in
+    let p = c .before .before .before .before .before .before .before .before .before .before .before .before .before .before .before .before .before .pre in
+    let x = c .before .before .before .before .before .before .follow .ensures in
     let js = jobsOf (now (a .rows)) (a .k) in
     let σ = stateOf (a .m) (a .k) (now (a .cur)) in
     let starts = edge-starts js σ (a .i) (a .s) (a .t) (p .2) .0 in
@@ -83,4 +86,5 @@ add-edge-spec =
     follow-requires
     same-length
     same-length-2
+    same-length-3
     returns)

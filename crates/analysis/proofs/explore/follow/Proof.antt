@@ -19,8 +19,8 @@ use Rattle.analysis.proofs.explore.follow.Tie as tie
 
 observe-requires : tie.Need-observe-requires
 observe-requires c κs =
-    let p = c .before .before .before .before .before .pre in
-    let a = c .before .before .before .before .before .args in
+    let p = c .before .before .before .before .before .before .pre in
+    let a = c .before .before .before .before .before .before .args in
     (p .0, p .1 .setting .jobs, takes-time (jobsOf (now (a .rows)) (a .k)) (stateOf (a .m) (a .k) (now (a .cur))) (a .i) (a .s) (a .e) (a .f) (p .2) (most-positive (now (a .rows)) (a .k) (a .m) (p .1 .setting) (a .i) (p .0)), p .1 .observed)
 
 deadline-requires : tie.Need-deadline-requires
@@ -31,8 +31,8 @@ same-length c = search needs
 
 returns : tie.Need-returns
 returns c =
-    let a = c .before .before .before .before .before .before .before .before .before .before .args in
-    let p = c .before .before .before .before .before .before .before .before .before .before .pre in
+    let a = c .before .before .before .before .before .before .before .before .before .before .before .args in
+    let p = c .before .before .before .before .before .before .before .before .before .before .before .pre in
     let js = jobsOf (now (a .rows)) (a .k) in
     let σ = stateOf (a .m) (a .k) (now (a .cur)) in
     let late : job js (a .i) .deadline < a .f = omega (arith, c .if1 .taken, c .before .deadline .ensures) in
@@ -44,14 +44,14 @@ returns c =
 
 store-successor-requires : tie.Need-store-successor-requires
 store-successor-requires c κs =
-    let a = c .before .before .before .before .before .before .before .before .before .before .before .args in
-    let p = c .before .before .before .before .before .before .before .before .before .before .before .pre in
+    let a = c .before .before .before .before .before .before .before .before .before .before .before .before .before .args in
+    let p = c .before .before .before .before .before .before .before .before .before .before .before .before .before .pre in
     let js = jobsOf (now (a .rows)) (a .k) in
     let σ = stateOf (a .m) (a .k) (now (a .cur)) in
     let given = p .1 in
-    let half = given .half-of in (
+    let half = given .target .0 in (
       (p .0, given .setting .jobs, given .setting .cores, given .setting .few-cores, given .words, given .sound .set-fits, fresh js σ (a .i) (a .s) (a .e) (a .f) (p .2)),
-      (omega (arith, half .long), half .room, λ j l. half .sound j l .set-fits),
+      (omega (arith, half .long), half .room, λ j l. half .sound j l .set-fits, given .target .1),
     )
 
 same-length-2 : tie.Need-same-length-2
@@ -60,23 +60,26 @@ same-length-2 c = search needs
 same-length-3 : tie.Need-same-length-3
 same-length-3 c = search needs
 
+same-length-4 : tie.Need-same-length-4
+same-length-4 c = search needs
+
 returns-2 : tie.Need-returns-2
 returns-2 c =
-    let a = c .before .before .before .before .before .before .before .before .before .before .before .before .before .before .args in
-    let p = c .before .before .before .before .before .before .before .before .before .before .before .before .before .before .pre in
+    let a = c .before .before .before .before .before .before .before .before .before .before .before .before .before .before .before .before .before .before .args in
+    let p = c .before .before .before .before .before .before .before .before .before .before .before .before .before .before .before .before .before .before .pre in
     let js = jobsOf (now (a .rows)) (a .k) in
     let σ = stateOf (a .m) (a .k) (now (a .cur)) in
     let l = statesOf (a .m) (a .k) (now (a .half)) (a .n) in
     let given = p .1 in
-    let x = c .before .before .store-successor .ensures in
-    let o = c .before .before .before .before .before .before .before .before .observe .ensures in
-    let timely : a .f ≤ job js (a .i) .deadline = omega (arith, c .before .before .before .before .if1 .left, c .before .before .before .before .before .deadline .ensures) in
+    let x = c .before .before .before .before .store-successor .ensures in
+    let o = c .before .before .before .before .before .before .before .before .before .before .before .observe .ensures in
+    let timely : a .f ≤ job js (a .i) .deadline = omega (arith, c .before .before .before .before .before .before .before .if1 .left, c .before .before .before .before .before .before .before .before .deadline .ensures) in
     let τ = withStart σ (a .i) (a .s) (a .e) (a .f) in
     record {
-      same = λ n. x .0 (observedOf (a .k) (c .before .before .before .before .before .before .before .before .observe .last .0)) n
+      same = λ n. x .0 (observedOf (a .k) (c .before .before .before .before .before .before .before .before .before .before .before .observe .last .0)) n
           ∙ ap (λ (seen : List Range). limited (a .cap) τ (stored τ l) seen n) (o .0)
           ∙ edge-kept js σ (a .i) (a .s) (a .e) (a .f) (p .2) (a .cap) l (observedOf (a .k) (now (a .seen))) n timely;
-      sound = x .1 js (given .half-of) (new-bounded js σ (a .i) (a .s) (a .e) (a .f) (p .2) latestTime (given .setting .timed) (given .sound .bounded) (inside (now (a .rows)) (a .k) (a .m) (given .setting) (a .i) (p .0)) timely);
+      sound = x .1 js (given .target .0) (new-bounded js σ (a .i) (a .s) (a .e) (a .f) (p .2) latestTime (given .setting .timed) (given .sound .bounded) (inside (now (a .rows)) (a .k) (a .m) (given .setting) (a .i) (p .0)) timely);
       observed = o .1;
     }
 
@@ -91,4 +94,5 @@ follow-spec =
     store-successor-requires
     same-length-2
     same-length-3
+    same-length-4
     returns-2)

@@ -11,7 +11,7 @@ use Rattle.analysis.proofs.explore.try_job.Tie as tie
 
 edge-of-requires : tie.Need-edge-of-requires
 edge-of-requires c κs =
-    let p = c .before .before .before .before .before .pre in
+    let p = c .before .before .before .before .before .before .pre in
     (p .0, record { readable = record { setting = p .1 .setting; words = p .1 .words }; bounded = p .1 .sound .bounded; listed = p .2 }, p .3, p .4)
 
 enum-known-s : tie.Need-enum-known-s
@@ -22,25 +22,28 @@ enum-told c = search needs
 
 returns : tie.Need-returns
 returns c =
-    let a = c .before .before .before .before .before .before .before .before .args in
-    let p = c .before .before .before .before .before .before .before .before .pre in
+    let a = c .before .before .before .before .before .before .before .before .before .args in
+    let p = c .before .before .before .before .before .before .before .before .before .pre in
     let none = sym (c .before .before .edge-of .ensures) ∙ c .enum-told .given .1 in
     record {
       same = λ n. no-edge (jobsOf (now (a .rows)) (a .k)) (stateOf (a .m) (a .k) (now (a .cur))) (a .i) (a .cap) (statesOf (a .m) (a .k) (now (a .half)) (a .n)) (observedOf (a .k) (now (a .seen))) n none;
-      sound = p .1 .half-of;
+      sound = p .1 .target;
       observed = p .1 .observed;
     }
 
 add-edge-requires : tie.Need-add-edge-requires
 add-edge-requires c κs =
-    let p = c .before .before .before .before .before .before .before .before .before .before .before .pre in
-    (p .0, p .1, sym (c .before .before .before .before .before .edge-of .ensures) ∙ c .before .before .before .s .given .1)
+    let p = c .before .before .before .before .before .before .before .before .before .before .before .before .before .pre in
+    (p .0, p .1, sym (c .before .before .before .before .before .before .edge-of .ensures) ∙ c .before .before .before .before .s .given .1)
 
 same-length : tie.Need-same-length
 same-length c = search needs
 
 same-length-2 : tie.Need-same-length-2
 same-length-2 c = search needs
+
+same-length-3 : tie.Need-same-length-3
+same-length-3 c = search needs
 
 returns-2 : tie.Need-returns-2
 returns-2 c = search needs
@@ -56,4 +59,5 @@ try-job-spec =
     add-edge-requires
     same-length
     same-length-2
+    same-length-3
     returns-2)

@@ -10,7 +10,7 @@ slice-aggregate-list-candidates c = search needs
 
 list-candidates-requires : tie.Need-list-candidates-requires
 list-candidates-requires c κs =
-    let p = c .before .before .before .before .before .pre in (record { setting = p .0; words = p .1 }, p .0 .jobs)
+    let p = c .before .before .before .before .before .before .pre in (record { setting = p .0; words = p .1 }, p .0 .jobs)
 
 array-share-prefix-list : tie.Need-array-share-prefix-list
 array-share-prefix-list c = search needs
@@ -20,19 +20,19 @@ slice-aggregate-work-conserving-bound c = sym (length-take-le _ _ (c .before .be
 
 work-conserving-bound-requires : tie.Need-work-conserving-bound-requires
 work-conserving-bound-requires c κs =
-    let p = c .before .before .before .before .before .before .before .before .pre in
+    let p = c .before .before .before .before .before .before .before .before .before .pre in
     record { readable = record { setting = p .0; words = p .1 }; bounded = p .2 .bounded; listed = c .before .before .list-candidates .ensures .1 }
 
 array-share-prefix-list-2 : tie.Need-array-share-prefix-list-2
 array-share-prefix-list-2 c = search needs
 
 slice-aggregate-try-jobs : tie.Need-slice-aggregate-try-jobs
-slice-aggregate-try-jobs c = sym (length-take-le _ _ (c .before .before .before .before .before .before .list-candidates .ensures .0))
+slice-aggregate-try-jobs c = sym (length-take-le _ _ (c .before .before .before .before .before .before .before .list-candidates .ensures .0))
 
 try-jobs-requires : tie.Need-try-jobs-requires
 try-jobs-requires c κs =
-    let p = c .before .before .before .before .before .before .before .before .before .before .before .before .pre in
-    (record { setting = p .0; words = p .1; sound = p .2; half-of = p .3; observed = p .4 }, c .before .before .before .before .before .before .list-candidates .ensures .1, c .before .before .before .work-conserving-bound .ensures)
+    let p = c .before .before .before .before .before .before .before .before .before .before .before .before .before .before .pre in
+    (record { setting = p .0; words = p .1; sound = p .2; target = p .3; observed = p .4 }, c .before .before .before .before .before .before .before .list-candidates .ensures .1, c .before .before .before .before .work-conserving-bound .ensures)
 
 same-length : tie.Need-same-length
 same-length c = search needs
@@ -40,8 +40,11 @@ same-length c = search needs
 same-length-2 : tie.Need-same-length-2
 same-length-2 c = search needs
 
+same-length-3 : tie.Need-same-length-3
+same-length-3 c = search needs
+
 returns : tie.Need-returns
-returns c = c .before .before .before .before .try-jobs .ensures
+returns c = c .before .before .before .before .before .before .try-jobs .ensures
 
 pub try-state-spec : {M : Type 1} → statement M
 try-state-spec =
@@ -57,4 +60,5 @@ try-state-spec =
     try-jobs-requires
     same-length
     same-length-2
+    same-length-3
     returns)

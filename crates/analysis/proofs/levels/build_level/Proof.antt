@@ -1,6 +1,6 @@
 -- `build_level` meets its contract: before each state, those that are left make the level from what is built. Assumes nothing.
 use Prim.Native.Nat.{ℕ, _+_, _*_, _-_, _≤_}
-use mathlib.Core.Path.{ap}
+use mathlib.Core.Path.{_≡_, sym, ap, _∙_}
 use native.Mathlib.Omega.{arith}
 use lib.ListN.{length}
 use denote.Ref.{now}
@@ -11,17 +11,17 @@ use Rattle.analysis.proofs.levels.build_level.Statement.{statement}
 use Rattle.analysis.proofs.levels.build_level.Tie as tie
 
 abbrev Inv-loop : tie.InvT-loop
-Inv-loop table₀ seen₀ from to n cap rows k m w end built₀ j₀ table seen built j = Building rows k m cap from to n table₀ seen₀ table seen built j
+Inv-loop table₀ seen₀ heads₀ from to n cap rows k m w end built₀ j₀ table seen heads built j = Building rows k m cap from to n table₀ seen₀ table seen heads built j
 
 abbrev μ-loop : tie.MeasureT-loop
-μ-loop table₀ seen₀ from to n cap rows k m w end built₀ j₀ table seen built j = n - j
+μ-loop table₀ seen₀ heads₀ from to n cap rows k m w end built₀ j₀ table seen heads built j = n - j
 
 state-words-requires : tie.Need-state-words-requires Inv-loop μ-loop
 state-words-requires c κs = search needs
 
 -- the half that is written lies in the table
-target : (c : tie.After-state-words Inv-loop μ-loop) → c .before .before .before .before .args .to + c .before .before .before .before .args .cap * c .state-words .result ≤ length (now (c .before .before .before .before .args .table))
-target c = omega (arith, ap (λ (z : ℕ). c .before .before .before .before .args .cap * z) (c .state-words .ensures), c .before .before .before .before .pre .1 .target)
+target : (c : tie.After-state-words Inv-loop μ-loop) → c .before .before .before .before .before .args .to + c .before .before .before .before .before .args .cap * c .state-words .result ≤ length (now (c .before .before .before .before .before .args .table))
+target c = omega (arith, ap (λ (z : ℕ). c .before .before .before .before .before .args .cap * z) (c .state-words .ensures), c .before .before .before .before .before .pre .1 .target)
 
 mul-end : tie.Need-mul-end Inv-loop μ-loop
 mul-end c = omega (arith, target c)
@@ -31,11 +31,11 @@ add-end c = omega (arith, target c)
 
 loop-holds : tie.Need-loop-holds Inv-loop μ-loop
 loop-holds c =
-    let a = c .before .before .before .before in
-    building-starts (a .pre .1) (a .pre .2) (a .pre .3)
+    let a = c .before .before .before .before .before in
+    building-starts (a .pre .1) (a .pre .2) (a .pre .3) (a .pre .4)
 
 -- the state that is read lies in the table
-read : (c : tie.In-loop Inv-loop μ-loop) → c .before .before .before .before .before .before .args .from + c .before .loop .j * c .before .before .state-words .result + c .before .before .state-words .result ≤ length (c .before .loop .table)
+read : (c : tie.In-loop Inv-loop μ-loop) → c .before .before .before .before .before .before .before .args .from + c .before .loop .j * c .before .before .state-words .result + c .before .before .state-words .result ≤ length (c .before .loop .table)
 read c =
     let i = c .before .loop in
     let s = c .before .before .state-words in
@@ -67,7 +67,7 @@ part-load-state-end c = omega (arith, read (c .before .before))
 
 load-state-requires : tie.Need-load-state-requires Inv-loop μ-loop
 load-state-requires c κs =
-    let a = c .before .before .before .before .before .before .before .before .before in
+    let a = c .before .before .before .before .before .before .before .before .before .before in
     let s = c .before .before .before .before .before .state-words in
     let at = a .args .from + c .before .before .before .before .loop .j * s .result in
     let l = part-length at (at + s .result - at) (c .before .before .before .before .loop .table) (omega (arith, read (c .before .before .before))) in
@@ -90,17 +90,24 @@ slice-aggregate-try-state c = search needs
 
 try-state-requires : tie.Need-try-state-requires Inv-loop μ-loop
 try-state-requires c κs =
-    let a = c .before .before .before .before .before .before .before .before .before .before .before .before .before .before in
-    let i = c .before .before .before .before .before .before .before .before .before .loop in
-    let s = c .before .before .before .before .before .before .before .before .before .before .state-words in
-    let t = c .before .before .before .before .before .before .before .before .loop-test .taken in
-    let l = c .before .before .before .before .load-state in (
+    let a = c .before .before .before .before .before .before .before .before .before .before .before .before .before .before .before .before in
+    let i = c .before .before .before .before .before .before .before .before .before .before .loop in
+    let s = c .before .before .before .before .before .before .before .before .before .before .before .state-words in
+    let t = c .before .before .before .before .before .before .before .before .before .loop-test .taken in
+    let l = c .before .before .before .before .before .load-state in (
       a .pre .0,
       omega (arith, l .kept .0, a .pre .0 .jobs, a .pre .0 .few-cores),
       loaded-sound (i .inv) (s .ensures) t (l .last .0) (l .ensures .0) (l .ensures .1),
       target-half (i .inv) (s .ensures) t,
       i .inv .observed,
     )
+
+-- no slice changes its length
+kept : (c : tie.After-try-state Inv-loop μ-loop) → (length (c .try-state .last .1 .0) ≡ length (now (c .before .before .before .before .before .before .before .before .before .before .before .before .before .before .before .before .before .args .seen))) × (length (c .try-state .last .1 .1 .0) ≡ length (now (c .before .before .before .before .before .before .before .before .before .before .before .before .before .before .before .before .before .args .heads)))
+kept c =
+    let p = c .before .before .before .before .before .before .before .before .before .before .before .before .before .before .before .before .before .pre in
+    let i = c .before .before .before .before .before .before .before .before .before .before .before .loop .inv in
+    let k = c .try-state .kept in (k .1 .0 ∙ i .observed .long ∙ sym (p .3 .long), k .1 .1 .0 ∙ i .target .1 .long ∙ sym (p .4))
 
 enum-known-x : tie.Need-enum-known-x Inv-loop μ-loop
 enum-known-x c = search needs
@@ -112,34 +119,40 @@ same-length : tie.Need-same-length Inv-loop μ-loop
 same-length c = search needs
 
 same-length-2 : tie.Need-same-length-2 Inv-loop μ-loop
-same-length-2 c = search needs
+same-length-2 c = kept (c .before .before .before .before .before .before .before .before .before) .0
+
+same-length-3 : tie.Need-same-length-3 Inv-loop μ-loop
+same-length-3 c = kept (c .before .before .before .before .before .before .before .before .before) .1
 
 returns : tie.Need-returns Inv-loop μ-loop
 returns c =
-    let i = c .before .before .before .before .before .before .before .before .before .before .before .before .before .before .before .before .before .loop in
-    let s = c .before .before .before .before .before .before .before .before .before .before .before .before .before .before .before .before .before .before .state-words in
-    let t = c .before .before .before .before .before .before .before .before .before .before .before .before .before .before .before .before .loop-test .taken in
-    let l = c .before .before .before .before .before .before .before .before .before .before .before .before .load-state in
-    let y = c .before .before .before .before .before .before .before .try-state in
+    let i = c .before .before .before .before .before .before .before .before .before .before .before .before .before .before .before .before .before .before .before .before .loop in
+    let s = c .before .before .before .before .before .before .before .before .before .before .before .before .before .before .before .before .before .before .before .before .before .state-words in
+    let t = c .before .before .before .before .before .before .before .before .before .before .before .before .before .before .before .before .before .before .before .loop-test .taken in
+    let l = c .before .before .before .before .before .before .before .before .before .before .before .before .before .before .before .load-state in
+    let y = c .before .before .before .before .before .before .before .before .before .try-state in
     let v = c .before .l .given .1 in
     building-full (i .inv) (s .ensures) t (l .last .0) (l .ensures .0) (y .kept .0) (y .ensures) v
 
 enum-known-i : tie.Need-enum-known-i Inv-loop μ-loop
 enum-known-i c = search needs
 
-same-length-3 : tie.Need-same-length-3 Inv-loop μ-loop
-same-length-3 c = search needs
-
 same-length-4 : tie.Need-same-length-4 Inv-loop μ-loop
 same-length-4 c = search needs
 
+same-length-5 : tie.Need-same-length-5 Inv-loop μ-loop
+same-length-5 c = kept (c .before .before .before .before .before .before .before .before .before) .0
+
+same-length-6 : tie.Need-same-length-6 Inv-loop μ-loop
+same-length-6 c = kept (c .before .before .before .before .before .before .before .before .before) .1
+
 returns-2 : tie.Need-returns-2 Inv-loop μ-loop
 returns-2 c =
-    let i = c .before .before .before .before .before .before .before .before .before .before .before .before .before .before .before .before .before .loop in
-    let s = c .before .before .before .before .before .before .before .before .before .before .before .before .before .before .before .before .before .before .state-words in
-    let t = c .before .before .before .before .before .before .before .before .before .before .before .before .before .before .before .before .loop-test .taken in
-    let l = c .before .before .before .before .before .before .before .before .before .before .before .before .load-state in
-    let y = c .before .before .before .before .before .before .before .try-state in
+    let i = c .before .before .before .before .before .before .before .before .before .before .before .before .before .before .before .before .before .before .before .before .loop in
+    let s = c .before .before .before .before .before .before .before .before .before .before .before .before .before .before .before .before .before .before .before .before .before .state-words in
+    let t = c .before .before .before .before .before .before .before .before .before .before .before .before .before .before .before .before .before .before .before .loop-test .taken in
+    let l = c .before .before .before .before .before .before .before .before .before .before .before .before .before .before .before .load-state in
+    let y = c .before .before .before .before .before .before .before .before .before .try-state in
     let v = c .before .i .given .1 in
     building-late (i .inv) (s .ensures) t (l .last .0) (l .ensures .0) (y .kept .0) (y .ensures) v
 
@@ -151,19 +164,22 @@ loop-less c = search needs
 
 loop-again : tie.Need-loop-again Inv-loop μ-loop
 loop-again c =
-    let i = c .before .before .before .before .before .before .before .before .before .before .before .before .before .before .before .before .before .loop in
-    let s = c .before .before .before .before .before .before .before .before .before .before .before .before .before .before .before .before .before .before .state-words in
-    let t = c .before .before .before .before .before .before .before .before .before .before .before .before .before .before .before .before .loop-test .taken in
-    let l = c .before .before .before .before .before .before .before .before .before .before .before .before .load-state in
-    let y = c .before .before .before .before .before .before .before .try-state in
+    let i = c .before .before .before .before .before .before .before .before .before .before .before .before .before .before .before .before .before .before .before .before .loop in
+    let s = c .before .before .before .before .before .before .before .before .before .before .before .before .before .before .before .before .before .before .before .before .before .state-words in
+    let t = c .before .before .before .before .before .before .before .before .before .before .before .before .before .before .before .before .before .before .before .loop-test .taken in
+    let l = c .before .before .before .before .before .before .before .before .before .before .before .before .before .before .before .load-state in
+    let y = c .before .before .before .before .before .before .before .before .before .try-state in
     let v = c .before .x .given .1 in
     building-goes-on (i .inv) (s .ensures) t (l .last .0) (l .ensures .0) (y .kept .0) (y .ensures) v
 
-same-length-5 : tie.Need-same-length-5 Inv-loop μ-loop
-same-length-5 c = search needs
+same-length-7 : tie.Need-same-length-7 Inv-loop μ-loop
+same-length-7 c = search needs
 
-same-length-6 : tie.Need-same-length-6 Inv-loop μ-loop
-same-length-6 c = search needs
+same-length-8 : tie.Need-same-length-8 Inv-loop μ-loop
+same-length-8 c = search needs
+
+same-length-9 : tie.Need-same-length-9 Inv-loop μ-loop
+same-length-9 c = search needs
 
 returns-3 : tie.Need-returns-3 Inv-loop μ-loop
 returns-3 c =
@@ -199,14 +215,17 @@ build-level-spec =
     enum-known-l
     same-length
     same-length-2
+    same-length-3
     returns
     enum-known-i
-    same-length-3
     same-length-4
+    same-length-5
+    same-length-6
     returns-2
     add-j
     loop-less
     loop-again
-    same-length-5
-    same-length-6
+    same-length-7
+    same-length-8
+    same-length-9
     returns-3)

@@ -1,17 +1,19 @@
 -- `climb_levels` meets its contract: before each level, what is stored is the definition's level before it. Assumes nothing.
 use Prim.Native.Nat.{ℕ, _*_, _-_}
-use mathlib.Core.Path.{ap}
+use mathlib.Core.Path.{_≡_, ap, _∙_}
 use native.Mathlib.Omega.{arith}
+use lib.ListN.{length, length-replicate}
 use borrow.Author.Needs.{needs}
+use Rattle.store.specs.Half.{buckets}
 use Rattle.analysis.proofs.Climbing.{Climbing, climbing-starts, climbing-ends, halves-apart, count-fits, climbing-goes-on, climbing-full, climbing-late}
 use Rattle.analysis.proofs.levels.climb_levels.Statement.{statement}
 use Rattle.analysis.proofs.levels.climb_levels.Tie as tie
 
 abbrev Inv-loop : tie.InvT-loop
-Inv-loop table₀ seen₀ cap rows k m w from₀ to₀ n₀ count₀ level₀ table seen from to n count level = Climbing rows k m cap table₀ table seen from to n count level
+Inv-loop table₀ seen₀ cap rows k m w from₀ to₀ n₀ count₀ level₀ heads₀ table seen from to n count level heads = Climbing rows k m cap table₀ table seen from to n count level × (length heads ≡ buckets)
 
 abbrev μ-loop : tie.MeasureT-loop
-μ-loop table₀ seen₀ cap rows k m w from₀ to₀ n₀ count₀ level₀ table seen from to n count level = k - level
+μ-loop table₀ seen₀ cap rows k m w from₀ to₀ n₀ count₀ level₀ heads₀ table seen from to n count level heads = k - level
 
 state-words-requires : tie.Need-state-words-requires Inv-loop μ-loop
 state-words-requires c κs = search needs
@@ -22,26 +24,29 @@ mul-to c = omega (arith, ap (λ (z : ℕ). c .before .before .before .before .ar
 loop-holds : tie.Need-loop-holds Inv-loop μ-loop
 loop-holds c =
     let a = c .before .before .before .before in
-    climbing-starts (a .pre .0 .1) (c .state-words .ensures) (a .pre .0 .2) (a .pre .0 .3) (a .pre .1)
+    (climbing-starts (a .pre .0 .1) (c .state-words .ensures) (a .pre .0 .2) (a .pre .0 .3) (a .pre .1), length-replicate {A = ℕ} buckets 0)
+
+slice-aggregate-build-level : tie.Need-slice-aggregate-build-level Inv-loop μ-loop
+slice-aggregate-build-level c = search needs
 
 build-level-requires : tie.Need-build-level-requires Inv-loop μ-loop
 build-level-requires c κs =
-    let a = c .before .before .before .before .before .before .before .before in
-    let i = c .before .before .before .loop in
-    (a .pre .0 .0, halves-apart (i .inv), i .inv .half, i .inv .observed)
+    let a = c .before .before .before .before .before .before .before .before .before in
+    let i = c .before .before .before .before .loop in
+    (a .pre .0 .0, halves-apart (i .inv .0), i .inv .0 .half, i .inv .0 .observed, i .inv .1)
 
 enum-known-x : tie.Need-enum-known-x Inv-loop μ-loop
 enum-known-x c = search needs
 
 add-count : tie.Need-add-count Inv-loop μ-loop
 add-count c =
-    let a = c .before .before .before .before .before .before .before .before .before .before .before .before .before .before .before .before in
-    let i = c .before .before .before .before .before .before .before .before .before .before .before .loop in
-    let y = c .before .before .before .before .before .before .before .build-level in
+    let a = c .before .before .before .before .before .before .before .before .before .before .before .before .before .before .before .before .before .before in
+    let i = c .before .before .before .before .before .before .before .before .before .before .before .before .before .loop in
+    let y = c .before .before .before .before .before .before .before .before .build-level in
     let v = c .before .x .given .1 in
     omega (
       arith,
-      count-fits (i .inv) (c .before .before .before .before .before .before .before .before .before .before .loop-test .taken) (y .kept .0) (y .ensures .0) (y .ensures .1) v,
+      count-fits (i .inv .0) (c .before .before .before .before .before .before .before .before .before .before .before .before .loop-test .taken) (y .kept .0) (y .ensures .0) (y .ensures .1) v,
       a .good,
     )
 
@@ -56,10 +61,10 @@ same-length-2 c = search needs
 
 returns : tie.Need-returns Inv-loop μ-loop
 returns c =
-    let i = c .before .before .before .before .before .before .before .before .before .before .before .loop in
-    let y = c .before .before .before .before .before .before .before .build-level in
+    let i = c .before .before .before .before .before .before .before .before .before .before .before .before .before .loop in
+    let y = c .before .before .before .before .before .before .before .before .build-level in
     let v = c .before .l .given .1 in
-    climbing-full (i .inv) (c .before .before .before .before .before .before .before .before .before .before .loop-test .taken) (y .kept .0) (y .ensures .0) (y .ensures .1) v
+    climbing-full (i .inv .0) (c .before .before .before .before .before .before .before .before .before .before .before .before .loop-test .taken) (y .kept .0) (y .ensures .0) (y .ensures .1) v
 
 enum-known-i : tie.Need-enum-known-i Inv-loop μ-loop
 enum-known-i c = search needs
@@ -72,10 +77,10 @@ same-length-4 c = search needs
 
 returns-2 : tie.Need-returns-2 Inv-loop μ-loop
 returns-2 c =
-    let i = c .before .before .before .before .before .before .before .before .before .before .before .loop in
-    let y = c .before .before .before .before .before .before .before .build-level in
+    let i = c .before .before .before .before .before .before .before .before .before .before .before .before .before .loop in
+    let y = c .before .before .before .before .before .before .before .before .build-level in
     let v = c .before .i .given .1 in
-    climbing-late (i .inv) (c .before .before .before .before .before .before .before .before .before .before .loop-test .taken) (y .kept .0) (y .ensures .0) (y .ensures .1) v
+    climbing-late (i .inv .0) (c .before .before .before .before .before .before .before .before .before .before .before .before .loop-test .taken) (y .kept .0) (y .ensures .0) (y .ensures .1) v
 
 add-level : tie.Need-add-level Inv-loop μ-loop
 add-level c = search needs
@@ -85,10 +90,10 @@ loop-less c = search needs
 
 loop-again : tie.Need-loop-again Inv-loop μ-loop
 loop-again c =
-    let i = c .before .before .before .before .before .before .before .before .before .before .before .loop in
-    let y = c .before .before .before .before .before .before .before .build-level in
+    let i = c .before .before .before .before .before .before .before .before .before .before .before .before .before .loop in
+    let y = c .before .before .before .before .before .before .before .before .build-level in
     let v = c .before .x .given .1 in
-    climbing-goes-on (i .inv) (c .before .before .before .before .before .before .before .before .before .before .loop-test .taken) (y .kept .0) (y .ensures .0) (y .ensures .1) v
+    (climbing-goes-on (i .inv .0) (c .before .before .before .before .before .before .before .before .before .before .before .before .loop-test .taken) (y .kept .0) (y .ensures .0) (y .ensures .1) v, y .kept .1 .1 .0 ∙ i .inv .1)
 
 same-length-5 : tie.Need-same-length-5 Inv-loop μ-loop
 same-length-5 c = search needs
@@ -99,7 +104,7 @@ same-length-6 c = search needs
 returns-3 : tie.Need-returns-3 Inv-loop μ-loop
 returns-3 c =
     let i = c .before .loop in
-    climbing-ends (i .inv) (c .loop-test .left)
+    climbing-ends (i .inv .0) (c .loop-test .left)
 
 pub climb-levels-spec : {M : Type 1} → statement M
 climb-levels-spec =
@@ -110,6 +115,7 @@ climb-levels-spec =
     state-words-requires
     mul-to
     loop-holds
+    slice-aggregate-build-level
     build-level-requires
     enum-known-x
     add-count

@@ -13,7 +13,7 @@ use Rattle.model.proofs.Bounds.{Bounded}
 use Rattle.states.specs.Slots.{setOf, stateOf, statesOf, Sound}
 use Rattle.slots.specs.Writing.{withStart}
 use Rattle.slots.proofs.Starts.{joined-fits}
-use Rattle.store.specs.Half.{levelOf, SoundAt}
+use Rattle.store.specs.Half.{levelOf, SoundAt, IndexedAt}
 use Rattle.store.specs.declared.Stored.{Stored}
 use Rattle.analysis.proofs.successor.store_successor.Statement.{statement}
 use Rattle.analysis.proofs.successor.store_successor.Tie as tie
@@ -28,19 +28,19 @@ slice-aggregate-store-state : tie.Need-slice-aggregate-store-state
 slice-aggregate-store-state c = search needs
 
 -- the new state's words
-fits : (c : tie.After-write-successor) → setOf (c .write-successor .last .0) < 2 ^ c .before .before .before .before .args .k
+fits : (c : tie.After-write-successor) → setOf (c .write-successor .last .0) < 2 ^ c .before .before .before .before .before .args .k
 fits c =
-    let a = c .before .before .before .before .args in
-    let p = c .before .before .before .before .pre .0 in
+    let a = c .before .before .before .before .before .args in
+    let p = c .before .before .before .before .before .pre .0 in
     subst (λ z. z < 2 ^ a .k) (sym (c .write-successor .ensures .1)) (joined-fits (a .m) (a .k) (now (a .cur)) (a .i) (p .0) (p .5) (p .6))
 
-long : (c : tie.After-write-successor) → stateWords (c .before .before .before .before .args .m) (c .before .before .before .before .args .k) ≤ length (c .write-successor .last .0)
-long c = omega (arith, c .write-successor .kept .0, c .before .before .before .before .pre .0)
+long : (c : tie.After-write-successor) → stateWords (c .before .before .before .before .before .args .m) (c .before .before .before .before .before .args .k) ≤ length (c .write-successor .last .0)
+long c = omega (arith, c .write-successor .kept .0, c .before .before .before .before .before .pre .0)
 
 store-state-requires : tie.Need-store-state-requires
 store-state-requires c κs =
-    let p = c .before .before .before .before .before .before .before .pre in
-    (p .0 .3, p .0 .1, p .1 .0, p .1 .1, long (c .before .before .before), p .1 .2, fits (c .before .before .before))
+    let p = c .before .before .before .before .before .before .before .before .before .pre in
+    (p .0 .3, p .0 .1, p .1 .0, p .1 .1, long (c .before .before .before .before), p .1 .2, fits (c .before .before .before .before), p .1 .3)
 
 enum-known-stored : tie.Need-enum-known-stored
 enum-known-stored c = search needs
@@ -52,42 +52,49 @@ slice-aggregate-level-of : tie.Need-slice-aggregate-level-of
 slice-aggregate-level-of c = search needs
 
 level-of-requires : tie.Need-level-of-requires
-level-of-requires c κs = (omega (arith, long (c .before .before .before .before .before .before .before .before .before)), fits (c .before .before .before .before .before .before .before .before .before))
+level-of-requires c κs = (omega (arith, long (c .before .before .before .before .before .before .before .before .before .before .before .before)), fits (c .before .before .before .before .before .before .before .before .before .before .before .before))
+
+-- the half once the new state is stored, or the level that is full
+level : (c : tie.After-store-state) (seen : List Range) (n : ℕ) →
+    levelOf (c .before .before .before .before .before .before .before .before .before .before .args .m) (c .before .before .before .before .before .before .before .before .before .before .args .k) (stateOf (c .before .before .before .before .before .before .before .before .before .before .args .m) (c .before .before .before .before .before .before .before .before .before .before .args .k) (c .before .before .before .before .before .write-successor .last .0)) seen n (c .store-state .result) (c .store-state .last .0)
+    ≡ limited (c .before .before .before .before .before .before .before .before .before .before .args .cap) (withStart (stateOf (c .before .before .before .before .before .before .before .before .before .before .args .m) (c .before .before .before .before .before .before .before .before .before .before .args .k) (now (c .before .before .before .before .before .before .before .before .before .before .args .cur))) (c .before .before .before .before .before .before .before .before .before .before .args .i) (c .before .before .before .before .before .before .before .before .before .before .args .s) (c .before .before .before .before .before .before .before .before .before .before .args .e) (c .before .before .before .before .before .before .before .before .before .before .args .f))
+    (stored (withStart (stateOf (c .before .before .before .before .before .before .before .before .before .before .args .m) (c .before .before .before .before .before .before .before .before .before .before .args .k) (now (c .before .before .before .before .before .before .before .before .before .before .args .cur))) (c .before .before .before .before .before .before .before .before .before .before .args .i) (c .before .before .before .before .before .before .before .before .before .before .args .s) (c .before .before .before .before .before .before .before .before .before .before .args .e) (c .before .before .before .before .before .before .before .before .before .before .args .f)) (statesOf (c .before .before .before .before .before .before .before .before .before .before .args .m) (c .before .before .before .before .before .before .before .before .before .before .args .k) (now (c .before .before .before .before .before .before .before .before .before .before .args .half)) (c .before .before .before .before .before .before .before .before .before .before .args .n))) seen n
+level c seen n =
+    let a = c .before .before .before .before .before .before .before .before .before .before .args in
+    c .store-state .ensures .0 seen n
+    ∙ ap (λ (τ : State). limited (a .cap) τ (stored τ (statesOf (a .m) (a .k) (now (a .half)) (a .n))) seen n) (c .before .before .before .before .before .write-successor .ensures .0)
 
 same-length : tie.Need-same-length
 same-length c = search needs
 
--- the half once the new state is stored, or the level that is full
-level : (c : tie.After-store-state) (seen : List Range) (n : ℕ) →
-    levelOf (c .before .before .before .before .before .before .before .before .args .m) (c .before .before .before .before .before .before .before .before .args .k) (stateOf (c .before .before .before .before .before .before .before .before .args .m) (c .before .before .before .before .before .before .before .before .args .k) (c .before .before .before .before .write-successor .last .0)) seen n (c .store-state .result) (c .store-state .last .0)
-    ≡ limited (c .before .before .before .before .before .before .before .before .args .cap) (withStart (stateOf (c .before .before .before .before .before .before .before .before .args .m) (c .before .before .before .before .before .before .before .before .args .k) (now (c .before .before .before .before .before .before .before .before .args .cur))) (c .before .before .before .before .before .before .before .before .args .i) (c .before .before .before .before .before .before .before .before .args .s) (c .before .before .before .before .before .before .before .before .args .e) (c .before .before .before .before .before .before .before .before .args .f))
-    (stored (withStart (stateOf (c .before .before .before .before .before .before .before .before .args .m) (c .before .before .before .before .before .before .before .before .args .k) (now (c .before .before .before .before .before .before .before .before .args .cur))) (c .before .before .before .before .before .before .before .before .args .i) (c .before .before .before .before .before .before .before .before .args .s) (c .before .before .before .before .before .before .before .before .args .e) (c .before .before .before .before .before .before .before .before .args .f)) (statesOf (c .before .before .before .before .before .before .before .before .args .m) (c .before .before .before .before .before .before .before .before .args .k) (now (c .before .before .before .before .before .before .before .before .args .half)) (c .before .before .before .before .before .before .before .before .args .n))) seen n
-level c seen n =
-    let a = c .before .before .before .before .before .before .before .before .args in
-    c .store-state .ensures .0 seen n
-    ∙ ap (λ (τ : State). limited (a .cap) τ (stored τ (statesOf (a .m) (a .k) (now (a .half)) (a .n))) seen n) (c .before .before .before .before .write-successor .ensures .0)
-
-returns : tie.Need-returns
-returns c =
-    let a = c .before .before .before .before .before .before .before .before .before .before .before .before .before .args in
-    let x = c .before .before .before .before .before in
-    let new = c .before .before .before .before .before .before .before .before .before .write-successor .last .0 in
-    let q = c .before .stored .given .1 in (
-      λ seen n. ap (λ (z : Stored). levelOf (a .m) (a .k) (stateOf (a .m) (a .k) new) seen n z (x .store-state .last .0)) (sym q) ∙ level x seen n,
-      λ js h bounded.
-          let sound : Sound js (a .m) (a .k) new = record { set-fits = fits (c .before .before .before .before .before .before .before .before .before); bounded = subst (Bounded js latestTime) (sym (c .before .before .before .before .before .before .before .before .before .write-successor .ensures .0)) bounded } in
-          let kept = subst (λ (z : Stored). SoundAt js (a .m) (a .k) (a .cap) z (x .store-state .last .0)) q (x .store-state .ensures .1 js (h .sound) sound) in
-          record { long = x .store-state .kept .0 ∙ h .long; room = kept .0; sound = kept .1 },
-    )
-
 same-length-2 : tie.Need-same-length-2
 same-length-2 c = search needs
 
+returns : tie.Need-returns
+returns c =
+    let a = c .before .before .before .before .before .before .before .before .before .before .before .before .before .before .before .before .before .args in
+    let x = c .before .before .before .before .before .before .before in
+    let new = c .before .before .before .before .before .before .before .before .before .before .before .before .write-successor .last .0 in
+    let q = c .before .stored .given .1 in (
+      λ seen n. ap (λ (z : Stored). levelOf (a .m) (a .k) (stateOf (a .m) (a .k) new) seen n z (x .store-state .last .0)) (sym q) ∙ level x seen n,
+      λ js h bounded.
+          let sound : Sound js (a .m) (a .k) new = record { set-fits = fits (c .before .before .before .before .before .before .before .before .before .before .before .before); bounded = subst (Bounded js latestTime) (sym (c .before .before .before .before .before .before .before .before .before .before .before .before .write-successor .ensures .0)) bounded } in
+          let kept = subst (λ (z : Stored). SoundAt js (a .m) (a .k) (a .cap) z (x .store-state .last .0)) q (x .store-state .ensures .1 .0 js (h .sound) sound) in
+          let index = subst (λ (z : Stored). IndexedAt (a .m) (a .k) z (x .store-state .last .0) (x .store-state .last .1 .0)) q (x .store-state .ensures .1 .1) in
+          (record { long = x .store-state .kept .0 ∙ h .long; room = kept .0; sound = kept .1 }, index),
+    )
+
+same-length-3 : tie.Need-same-length-3
+same-length-3 c = search needs
+
+same-length-4 : tie.Need-same-length-4
+same-length-4 c = search needs
+
 returns-2 : tie.Need-returns-2
 returns-2 c =
-    let a = c .before .before .before .before .before .before .before .before .before .before .before .before .before .before .args in
-    let x = c .before .before .before .before .before .before in
-    let new = c .before .before .before .before .before .before .before .before .before .before .write-successor .last .0 in
+    let a = c .before .before .before .before .before .before .before .before .before .before .before .before .before .before .before .before .before .before .args in
+    let x = c .before .before .before .before .before .before .before .before in
+    let new = c .before .before .before .before .before .before .before .before .before .before .before .before .before .write-successor .last .0 in
     let q = c .before .before .enum-told .given .1 in (
       λ seen n. ap full (c .level-of .ensures) ∙ ap (λ (z : Stored). levelOf (a .m) (a .k) (stateOf (a .m) (a .k) new) seen n z (x .store-state .last .0)) (sym q) ∙ level x seen n,
       λ js h bounded. tt,
@@ -106,6 +113,8 @@ store-successor-spec =
     slice-aggregate-level-of
     level-of-requires
     same-length
-    returns
     same-length-2
+    returns
+    same-length-3
+    same-length-4
     returns-2)

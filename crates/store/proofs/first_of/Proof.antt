@@ -1,0 +1,95 @@
+-- `store::first_of` meets its contract. Assumes nothing.
+use Prim.Native.Nat.{_+_, _*_, _-_, _≤_}
+use mathlib.Core.Path.{_≡_, sym, ap, _∙_}
+use native.Mathlib.Omega.{arith}
+use lib.ListN.{getD, length}
+use denote.Ref.{now}
+use borrow.Author.Needs.{needs}
+use Rattle.model.specs.Exploration.{stateWords}
+use Rattle.store.specs.Half.{bucketOf, bucketAt}
+use Rattle.store.proofs.Storing.{slot-fits}
+use Rattle.store.proofs.Indexing.{no-slot, other-bucket, head-is-first}
+use Rattle.store.proofs.first_of.Statement.{statement}
+use Rattle.store.proofs.first_of.Tie as tie
+
+mul-head : tie.Need-mul-head
+mul-head c = search needs
+
+shared-slice-read-head : tie.Need-shared-slice-read-head
+shared-slice-read-head c = search needs
+
+returns : tie.Need-returns
+returns c =
+    let a = c .before .before .before .before in
+    no-slot (a .args .m) (a .args .k) (now (a .args .half)) (a .args .n) (now (a .args .heads)) (a .pre .4) (a .args .b) (c .if1 .taken)
+
+state-words-requires : tie.Need-state-words-requires
+state-words-requires c κs = search needs
+
+-- the head's slot lies in the half
+within : (c : tie.After-state-words) → getD (now (c .before .before .before .before .before .args .heads)) (c .before .before .before .before .before .args .b) 0 * c .state-words .result + c .state-words .result ≤ length (now (c .before .before .before .before .before .args .half))
+within c =
+    let a = c .before .before .before .before .before in
+    rw (c .state-words .ensures) (omega (arith, slot-fits (getD (now (a .args .heads)) (a .args .b) 0) (a .args .n) (stateWords (a .args .m) (a .args .k)) (c .before .if1 .left), a .pre .2))
+
+mul-at : tie.Need-mul-at
+mul-at c = omega (arith, within c)
+
+add-end : tie.Need-add-end
+add-end c = omega (arith, within c)
+
+mul-started-set : tie.Need-mul-started-set
+mul-started-set c = omega (arith, within c)
+
+sub-started-set : tie.Need-sub-started-set
+sub-started-set c = search needs
+
+part-started-set-start : tie.Need-part-started-set-start
+part-started-set-start c = search needs
+
+part-started-set-end : tie.Need-part-started-set-end
+part-started-set-end c = omega (arith, within c)
+
+started-set-requires : tie.Need-started-set-requires
+started-set-requires c κs = search needs
+
+bucket-of-requires : tie.Need-bucket-of-requires
+bucket-of-requires c κs = search needs
+
+-- the bucket of the state that stands there
+tested : (c : tie.After-bucket-of) → c .bucket-of .result ≡ bucketAt (c .before .before .before .before .before .before .before .before .args .m) (c .before .before .before .before .before .before .before .before .args .k) (now (c .before .before .before .before .before .before .before .before .args .half)) (getD (now (c .before .before .before .before .before .before .before .before .args .heads)) (c .before .before .before .before .before .before .before .before .args .b) 0)
+tested c =
+    let a = c .before .before .before .before .before .before .before .before in
+    let W = stateWords (a .args .m) (a .args .k) in
+    let h = getD (now (a .args .heads)) (a .args .b) 0 in
+    let p : h * W + W - h * W ≡ W = omega arith in
+    c .bucket-of .ensures ∙ ap bucketOf (rw (c .before .before .before .state-words .ensures, p) at (c .before .started-set .ensures))
+
+returns-2 : tie.Need-returns-2
+returns-2 c =
+    let a = c .before .before .before .before .before .before .before .before .before in
+    other-bucket (a .args .m) (a .args .k) (now (a .args .half)) (a .args .n) (now (a .args .heads)) (a .pre .4) (a .args .b) (λ e. c .if2 .taken (tested (c .before) ∙ e))
+
+returns-3 : tie.Need-returns-3
+returns-3 c =
+    let a = c .before .before .before .before .before .before .before .before .before in
+    head-is-first (a .args .m) (a .args .k) (now (a .args .half)) (a .args .n) (now (a .args .heads)) (a .pre .4) (a .args .b) (c .before .before .before .before .before .if1 .left) (sym (tested (c .before)) ∙ c .if2 .left)
+
+pub first-of-spec : {M : Type 1} → statement M
+first-of-spec =
+    tie.close
+    (tie.spec
+    mul-head
+    shared-slice-read-head
+    returns
+    state-words-requires
+    mul-at
+    add-end
+    mul-started-set
+    sub-started-set
+    part-started-set-start
+    part-started-set-end
+    started-set-requires
+    bucket-of-requires
+    returns-2
+    returns-3)
