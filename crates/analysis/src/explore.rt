@@ -7,10 +7,11 @@ ghost use Rattle.model.specs.Edges.{candidate, workConservingBound};
 ghost use Rattle.model.specs.Exploration.{going, addEdge, tryJob, tryJobs, stateWords};
 ghost use Rattle.jobs.specs.Rows.{jobsOf, Setting};
 ghost use Rattle.states.specs.Slots.{stateOf, statesOf, Sound};
-ghost use Rattle.edges.specs.Edges.{edgeOf, candidates};
+ghost use Rattle.edges.specs.Edges.{edgeOf, candidates, PredecessorSets};
 ghost use Rattle.edges.specs.declared.Edge.the-variants.{Starts};
 ghost use Rattle.analysis.specs.Observed.{observedOf, Observed};
 ghost use Rattle.analysis.specs.Progress.{Target, Leaves, Explores, Follows};
+use crate::MOST_JOBS;
 use crate::Step;
 use crate::observed::observe;
 use crate::successor::store_successor;
@@ -168,18 +169,20 @@ pub fn try_state(
     n: usize,
     cap: usize,
     rows: &[u32],
+    sets: &[u64],
     k: usize,
     cur: &[u32],
     m: usize,
 ) -> Step
-    requires { ⌜ Setting (now rows) k m × (stateWords m k ≤ length (now cur)) × Sound (jobsOf (now rows) k) m k (now cur)
+    requires { ⌜ Setting (now rows) k m × (k ≤ length (now sets)) × PredecessorSets (jobsOf (now rows) k) k (now sets) ⌝ }
+    requires { ⌜ (stateWords m k ≤ length (now cur)) × Sound (jobsOf (now rows) k) m k (now cur)
         × Target (jobsOf (now rows) k) m k cap (now half) (now heads) n × Observed k (now seen) ⌝ }
     ensures { λ r. ⌜ Leaves (jobsOf (now (rows .entry)) k) m k cap
         (λ c. tryJobs (jobsOf (now (rows .entry)) k) cap (stateOf m k (now (cur .entry))) k
         (going (statesOf m k (now (half .entry)) n) (observedOf k (now (seen .entry))) c)) r (now (half .exit)) (now (seen .exit)) (now (heads .exit)) ⌝ }
 {
-    let mut list = [0u32; 64];
-    let listed = list_candidates(rows, k, cur, m, &mut list);
+    let mut list = [0u32; MOST_JOBS];
+    let listed = list_candidates(sets, k, cur, m, &mut list);
     let bound = work_conserving_bound(rows, k, cur, m, &list[..listed]);
     try_jobs(
         half,

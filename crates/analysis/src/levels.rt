@@ -8,14 +8,17 @@ ghost use Rattle.model.specs.Exploration.{stateWords, capacity, going, tryState
 ghost use Rattle.words.proofs.Parts.{part};
 ghost use Rattle.jobs.specs.Rows.{Setting, jobsOf};
 ghost use Rattle.states.specs.Slots.{statesOf};
+ghost use Rattle.edges.specs.Edges.{PredecessorSets};
 ghost use Rattle.store.specs.Half.{buckets};
 ghost use Rattle.analysis.specs.Observed.{observedWords, observedOf, Observed};
 ghost use Rattle.analysis.specs.Progress.{Half, Leaves};
 ghost use Rattle.analysis.specs.Outcomes.{Halves, answerIn};
+use crate::MOST_JOBS;
 use crate::Step;
 use crate::explore::try_state;
 use crate::successor::MOST_STATE_WORDS;
 use crate::successor::load_state;
+use edges::write_predecessor_sets;
 use states::state_words;
 use store::BUCKETS;
 use words::clear;
@@ -41,10 +44,12 @@ pub fn build_level(
     n: usize,
     cap: usize,
     rows: &[u32],
+    sets: &[u64],
     k: usize,
     m: usize,
 ) -> Step
-    requires { ⌜ Setting (now rows) k m × Halves (length (now table)) (cap * stateWords m k) from to
+    requires { ⌜ Setting (now rows) k m × (k ≤ length (now sets)) × PredecessorSets (jobsOf (now rows) k) k (now sets) ⌝ }
+    requires { ⌜ Halves (length (now table)) (cap * stateWords m k) from to
         × Half (jobsOf (now rows) k) m k cap (part from (cap * stateWords m k) (now table)) n × Observed k (now seen)
         × (length (now heads) ≡ buckets) ⌝ }
     ensures { λ r. ⌜ Leaves (jobsOf (now (rows .entry)) k) m k cap
@@ -69,6 +74,7 @@ pub fn build_level(
             built,
             cap,
             rows,
+            sets,
             k,
             &cur,
             m,
@@ -106,6 +112,8 @@ pub fn climb_levels(
     ensures { λ _. ⌜ drop (2 * (cap * stateWords m k)) (now (table .exit)) ≡ drop (2 * (cap * stateWords m k)) (now (table .entry)) ⌝ }
 {
     let w = state_words(m, k);
+    let mut sets = [0u64; MOST_JOBS];
+    write_predecessor_sets(rows, k, &mut sets);
     let mut from = 0;
     let mut to = cap * w;
     let mut n = 1;
@@ -113,7 +121,7 @@ pub fn climb_levels(
     let mut level = 0;
     let mut heads = [0usize; BUCKETS];
     while level < k {
-        match build_level(table, seen, &mut heads, from, to, n, cap, rows, k, m) {
+        match build_level(table, seen, &mut heads, from, to, n, cap, rows, &sets, k, m) {
             Step::Going(x) => {
                 n = x;
                 count += x as u64;

@@ -1,11 +1,10 @@
 -- The bounds of a state and the cases of an edge, by the words that the code computes. Assumes nothing.
 use Prim.Native.Nat.{ℕ, _-_, _<_, _≤_, min, max}
 use mathlib.Core.Path.{_≡_, refl, sym, ap, _∙_}
-use mathlib.Core.Bool.{Bool, true, false, _&&_}
+use mathlib.Core.Bool.{true, false, _&&_, and-true, and-false}
 use mathlib.Core.List.{List, [], _∷_}
 use native.Mathlib.Nat.{add-zero}
 use native.Mathlib.Omega.{arith}
-use lib.Dec.{ltb}
 use lib.ListN.{getD, length, take, drop}
 use lib.Seq.{getD-take, getD-drop}
 use borrow.Author.Tests.{lt-ltb, le-ltb, le-leb, lt-leb}
@@ -22,16 +21,12 @@ use Rattle.edges.proofs.Folds.{smallestIn, smallest-listed}
 
 -- ---- the smallest over the listed candidates
 
-both-true : (b : Bool) → b ≡ (b && true)
-both-true true = refl
-both-true false = refl
-
 module _ (js : List Job) (σ : State) (k : ℕ) (list : List ℕ) (listed : list ≡ candidates js σ k) (every-job : k ≡ length js) where
   pub first-listed : smallestIn all (certainlyReady js σ) list ≡ firstCertainlyReady js σ
   unfolding firstCertainlyReady
   first-listed =
       rw (listed, ← every-job)
-      (smallest-listed (candidate js σ) all (candidate js σ) (certainlyReady js σ) (λ j. both-true (candidate js σ j)) k)
+      (smallest-listed (candidate js σ) all (candidate js σ) (certainlyReady js σ) (λ j. sym (and-true (candidate js σ j))) k)
 
   pub higher-listed : (i : ℕ) → smallestIn (λ j. before js j i) (certainlyReadyBeside js σ i) list ≡ higherPriorityBound js σ i
   unfolding higherPriorityBound
@@ -81,36 +76,40 @@ module _ (js : List Job) (timed : TimedUpTo latestTime js) (σ : State) (g : Bou
 
 -- ---- the cases of an edge
 
-never : (a : Bool) → (a && false) ≡ false
-never true = refl
-never false = refl
-
 module _ (js : List Job) (σ : State) (i : ℕ) where
   module _ (start bound : ℕ) (s : start ≡ earliestStart js σ i) (b : bound ≡ workConservingBound js σ) where
     pub past-the-bound : bound < start → NotEligible ≡ edgeOf js σ i
     unfolding edgeOf eligible
-    past-the-bound h = rw (← s, ← b, lt-leb start bound h, never)
+    past-the-bound h = rw (← s, ← b, lt-leb start bound h, and-false)
 
-    module _ (higher : ℕ) (t : higher ≡ limitWord (higherPriorityBound js σ i)) (early : start ≤ latestTime) where
-      is-below : isBelow start (higherPriorityBound js σ i) ≡ ltb start higher
-      is-below = go (higherPriorityBound js σ i) t
-        where
-          go : (x : Limit) → higher ≡ limitWord x → isBelow start x ≡ ltb start higher
-          go infinite q = sym (lt-ltb start higher (omega arith))
-          go (finite y) q = rw q
-
-      pub held-back : higher ≤ start → NotEligible ≡ edgeOf js σ i
+    module _ (higher : ℕ) (t : max start higher ≡ max start (limitWord (higherPriorityBound js σ i))) where
+      pub held-back : start ≤ latestTime → higher ≤ start → NotEligible ≡ edgeOf js σ i
       unfolding edgeOf eligible
-      held-back h = rw (← s, is-below, le-ltb start higher h, never, never)
-
-      last-below : bound ≤ latestTime → lastBelow bound (higherPriorityBound js σ i) ≡ min bound (higher - 1)
-      last-below h = go (higherPriorityBound js σ i) t
+      held-back early h = rw (← s, go (higherPriorityBound js σ i) t, and-false, and-false)
         where
-          go : (x : Limit) → higher ≡ limitWord x → lastBelow bound x ≡ min bound (higher - 1)
-          go infinite q = omega arith
-          go (finite y) q = rw q
+          go : (x : Limit) → max start higher ≡ max start (limitWord x) → isBelow start x ≡ false
+          go infinite q = absurd (omega arith)
+          go (finite y) q = le-ltb start y (omega arith)
 
-      pub starts : bound ≤ latestTime → candidate js σ i ≡ true → start ≤ bound → start < higher
-          → (last : ℕ) → last ≡ min bound (higher - 1) → Starts start last ≡ edgeOf js σ i
-      unfolding edgeOf eligible latestStart
-      starts h e h₁ h₂ last l = rw (← s, ← b, is-below, e, le-leb start bound h₁, lt-ltb start higher h₂, last-below h, l)
+      module _ (h : start < higher) where
+        past : higher ≡ limitWord (higherPriorityBound js σ i)
+        past = omega arith
+
+        is-below : isBelow start (higherPriorityBound js σ i) ≡ true
+        is-below = go (higherPriorityBound js σ i) past
+          where
+            go : (x : Limit) → higher ≡ limitWord x → isBelow start x ≡ true
+            go infinite q = refl
+            go (finite y) q = lt-ltb start y (omega arith)
+
+        last-below : bound ≤ latestTime → lastBelow bound (higherPriorityBound js σ i) ≡ min bound (higher - 1)
+        last-below b = go (higherPriorityBound js σ i) past
+          where
+            go : (x : Limit) → higher ≡ limitWord x → lastBelow bound x ≡ min bound (higher - 1)
+            go infinite q = omega arith
+            go (finite y) q = rw q
+
+        pub starts : bound ≤ latestTime → candidate js σ i ≡ true → start ≤ bound → (last : ℕ) → last ≡ min bound (higher - 1)
+            → Starts start last ≡ edgeOf js σ i
+        unfolding edgeOf eligible latestStart
+        starts g e h₁ last l = rw (← s, ← b, is-below, e, le-leb start bound h₁, last-below g, l)

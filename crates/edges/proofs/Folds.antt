@@ -1,35 +1,18 @@
 -- One turn, and the end, of a loop over a list from its start. Assumes nothing.
 use Prim.Native.Nat.{ℕ, _+_, _<_, _≤_, min, max}
-use mathlib.Core.Path.{_≡_, refl, ap, _∙_}
+use mathlib.Core.Path.{_≡_, refl, ap}
 use mathlib.Core.Bool.{Bool, true, false, _&&_, cond}
-use mathlib.Core.List.{List, foldl}
+use mathlib.Core.List.{List, [], _∷_, foldl, foldl-append}
 use native.Mathlib.Numerals.{add-one}
 use native.Mathlib.Omega.{arith}
 use lib.Dec.{ltb}
-use lib.ListN.{getD, length, take, drop, drop-of-length-le}
+use lib.ListN.{getD, length, take, drop, drop-of-length-le, take-append-drop}
 use lib.Seq.{drop-cons}
 use borrow.Author.Tests.{ltb-false}
-use Rattle.model.specs.Folds.{every, largest, Limit, infinite, finite, smallest}
+use Rattle.model.specs.Folds.{largest, Limit, infinite, finite, smallest}
 use Rattle.model.specs.Folds as folds
 use Rattle.edges.specs.Edges.{listBelow, noLimit, limitWord}
 use Rattle.edges.proofs.Listing.{fold-listed, fold-turn}
-
--- ---- every: what is left to test, from index j on, decides
-
-module _ (p : ℕ → Bool) (l : List ℕ) (j : ℕ) (left : every p l ≡ every p (drop j l)) where
-  pub every-passed : length l ≤ j → every p l ≡ true
-  unfolding every
-  every-passed h = left ∙ rw (drop-of-length-le l h)
-
-  turn : j < length l → every p l ≡ (p (getD l j 0) && every p (drop (j + 1) l))
-  unfolding every
-  turn h = left ∙ rw (add-one, drop-cons l j 0 h)
-
-  pub every-fails : j < length l → p (getD l j 0) ≡ false → every p l ≡ false
-  every-fails h e = turn h ∙ rw e
-
-  pub every-goes-on : j < length l → p (getD l j 0) ≡ true → every p l ≡ every p (drop (j + 1) l)
-  every-goes-on h e = turn h ∙ rw e
 
 -- ---- the largest: the larger of r and what is left, from index j on, is the result t
 
@@ -44,12 +27,15 @@ module _ (p : ℕ → Bool) (f : ℕ → ℕ) (l : List ℕ) (j r t : ℕ) (left
 
 -- ---- the smallest of those in a list that pass: r is that of the elements before index t
 
+abbrev lower : (ℕ → Bool) → (ℕ → ℕ) → Limit → ℕ → Limit
+lower q f x j = cond (q j) (folds.smaller (f j) x) x
+
 abbrev pub smallestIn : (ℕ → Bool) → (ℕ → ℕ) → List ℕ → Limit
-smallestIn q f = foldl (λ x j. cond (q j) (folds.smaller (f j) x) x) infinite
+smallestIn q f = foldl (lower q f) infinite
 
 module _ (q : ℕ → Bool) (f : ℕ → ℕ) (l : List ℕ) (t r : ℕ) (h : t < length l) (so-far : r ≡ limitWord (smallestIn q f (take t l))) where
-  turned : smallestIn q f (take (t + 1) l) ≡ cond (q (getD l t 0)) (folds.smaller (f (getD l t 0)) (smallestIn q f (take t l))) (smallestIn q f (take t l))
-  turned = fold-turn (λ x j. cond (q j) (folds.smaller (f j) x) x) infinite l t h
+  turned : smallestIn q f (take (t + 1) l) ≡ lower q f (smallestIn q f (take t l)) (getD l t 0)
+  turned = fold-turn (lower q f) infinite l t h
 
   pub smallest-with : q (getD l t 0) ≡ true → f (getD l t 0) ≤ noLimit → min r (f (getD l t 0)) ≡ limitWord (smallestIn q f (take (t + 1) l))
   smallest-with e b = rw (turned, e, so-far) (go (smallestIn q f (take t l)))
@@ -79,7 +65,24 @@ module _ (q : ℕ → Bool) (f : ℕ → ℕ) (l : List ℕ) (t r : ℕ) (h : t 
       go true e n = smallest-without n
       go false e n = smallest-past low s g (ltb-false low r e)
 
+-- more elements leave a limit or lower it
+lowered : (q : ℕ → Bool) (f : ℕ → ℕ) (l : List ℕ) (y : ℕ) → limitWord (foldl (lower q f) (finite y) l) ≤ y
+lowered q f [] y = omega arith
+lowered q f (j ∷ l) y = go (q j) (lowered q f l)
+  where
+    go : (b : Bool) → ((z : ℕ) → limitWord (foldl (lower q f) (finite z) l) ≤ z) → limitWord (foldl (lower q f) (cond b (finite (min (f j) y)) (finite y)) l) ≤ y
+    go true g = omega (arith, g (min (f j) y))
+    go false g = g y
+
+pub smallest-of-all : (q : ℕ → Bool) (f : ℕ → ℕ) (l : List ℕ) (t r : ℕ) → r ≡ limitWord (smallestIn q f (take t l)) → r < noLimit
+    → limitWord (smallestIn q f l) ≤ r
+smallest-of-all q f l t r so-far h = rw (← take-append-drop t l, foldl-append) (go (smallestIn q f (take t l)) so-far)
+  where
+    go : (x : Limit) → r ≡ limitWord x → limitWord (foldl (lower q f) x (drop t l)) ≤ r
+    go infinite e = absurd (omega arith)
+    go (finite y) e = omega (arith, lowered q f (drop t l) y)
+
 -- over the numbers that pass p, in a list, it is the smallest over the numbers that pass both
 pub smallest-listed : (p q b : ℕ → Bool) (f : ℕ → ℕ) → ((j : ℕ) → b j ≡ (p j && q j)) → (n : ℕ) → smallestIn q f (listBelow p n) ≡ smallest b f n
 unfolding smallest
-smallest-listed p q b f both = fold-listed p (λ x j. cond (q j) (folds.smaller (f j) x) x) (smallest b f) (λ j e. rw (both j, e)) (λ j e. rw (both j, e))
+smallest-listed p q b f both = fold-listed p (lower q f) (smallest b f) (λ j e. rw (both j, e)) (λ j e. rw (both j, e))

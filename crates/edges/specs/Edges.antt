@@ -1,18 +1,18 @@
 -- What is given where the edges of a state are asked for, and what is answered. Assumes nothing.
-use Prim.Native.Nat.{ℕ, zero, suc, _≤_}
+use Prim.Native.Nat.{ℕ, zero, suc, _<_, _≤_}
 use mathlib.Core.Path.{_≡_}
-use mathlib.Core.Bool.{Bool, cond}
+use mathlib.Core.Bool.{Bool, true, cond}
 use mathlib.Core.List.{List, [], _∷_, _++_}
-use lib.ListN.{length}
+use lib.ListN.{getD, length}
 use Rattle.model.specs.Limits.{latestTime}
-use Rattle.model.specs.Folds.{Limit, infinite, finite, smallest}
-use Rattle.model.specs.Jobs.{Job}
+use Rattle.model.specs.Folds.{member, Limit, infinite, finite, smallest}
+use Rattle.model.specs.Jobs.{Job, predecessors}
 use Rattle.model.specs.States.{State}
 use Rattle.model.specs.Edges.{candidate, certainlyReady, earliestStart, eligible, latestStart}
 use Rattle.model.specs.Exploration.{stateWords}
 use Rattle.model.proofs.Bounds.{Bounded}
 use Rattle.jobs.specs.Rows.{jobsOf, Setting}
-use Rattle.states.specs.Slots.{stateOf}
+use Rattle.states.specs.Slots.{inSet, stateOf}
 use Rattle.edges.specs.declared.Edge.{Edge}
 use Rattle.edges.specs.declared.Edge.the-variants.{NotEligible, Starts}
 
@@ -20,6 +20,15 @@ use Rattle.edges.specs.declared.Edge.the-variants.{NotEligible, Starts}
 pub record Readable (rows : List ℕ) (k : ℕ) (s : List ℕ) (m : ℕ) : Type 0 where
   pub setting : Setting rows k m
   pub words : stateWords m k ≤ length s
+
+-- the predecessors of job i, which are earlier jobs, as a set: bit w for job w
+pub record PredecessorSet (js : List Job) (i set : ℕ) : Type 0 where
+  pub members : (w : ℕ) → inSet set w ≡ member w (predecessors js i)
+  pub earlier : (w : ℕ) → inSet set w ≡ true → w < i
+
+-- the sets of k jobs, one after the other
+abbrev pub PredecessorSets : List Job → ℕ → List ℕ → Type 0
+PredecessorSets js k sets = (i : ℕ) → i < k → PredecessorSet js i (getD sets i 0)
 
 -- the numbers below n that pass, rising
 unfoldable pub listBelow : (ℕ → Bool) → ℕ → List ℕ

@@ -1,16 +1,19 @@
 // Which jobs may start next in a state, and when. There are k jobs, in `rows`, and m cores; the words `s` are the state.
 ghost use mathlib.Core.Path.{_≡_};
-ghost use Prim.Native.Nat.{_<_, _≤_};
+ghost use Prim.Native.Nat.{_<_, _≤_, max};
 ghost use mathlib.Core.Bool.{true, not, cond, _&&_};
+ghost use mathlib.Core.List.{List};
 ghost use lib.Dec.{ltb};
 ghost use lib.ListN.{length, take};
+ghost use Rattle.model.specs.Limits.{mostJobs, latestTime};
 ghost use Rattle.model.specs.Folds.{every, member};
-ghost use Rattle.model.specs.Jobs.{job, predecessors, before};
-ghost use Rattle.model.specs.States.{latest, finishOf, started};
+ghost use Rattle.model.specs.Jobs.{Job, job, predecessors, before};
+ghost use Rattle.model.specs.States.{latest, finishOf};
 ghost use Rattle.model.specs.Edges.{candidate, possiblyReady, certainlyReady, earliestStart, workConservingBound, certainlyReadyBeside, higherPriorityBound};
+ghost use Rattle.model.specs.Exploration.{stateWords};
 ghost use Rattle.jobs.specs.Rows.{jobsOf, Rows};
-ghost use Rattle.states.specs.Slots.{stateOf};
-ghost use Rattle.edges.specs.Edges.{Readable, candidates, Prepared, limitWord, firstCertainlyReady, edgeOf};
+ghost use Rattle.states.specs.Slots.{inSet, stateOf};
+ghost use Rattle.edges.specs.Edges.{Readable, PredecessorSet, PredecessorSets, candidates, Prepared, limitWord, firstCertainlyReady, edgeOf};
 use jobs::earliest_release;
 use jobs::goes_before;
 use jobs::is_predecessor;
@@ -19,10 +22,10 @@ use jobs::predecessor;
 use jobs::predecessor_count;
 use states::SET_WORDS;
 use states::earliest_finish;
-use states::is_started;
 use states::larger;
 use states::latest_finish;
 use states::smaller;
+use states::started_set;
 
 // The word for an infinite limit.
 const NO_LIMIT: u32 = 4294967295;
@@ -33,42 +36,54 @@ pub enum Edge {
     Starts(u32, u32),
 }
 
-fn predecessors_started(rows: &[u32], k: usize, s: &[u32], m: usize, i: usize) -> bool
-    requires { ⌜ (i < k) × Readable (now rows) k (now s) m ⌝ }
-    ensures { λ r. ⌜ r ≡ every (started (stateOf m k (now (s .entry)))) (predecessors (jobsOf (now (rows .entry)) k) i) ⌝ }
+// The predecessors of job i: bit w for job w.
+fn predecessor_set(rows: &[u32], k: usize, i: usize) -> u64
+    requires { ⌜ (i < k) × (k ≤ mostJobs) × Rows (now rows) k ⌝ }
+    ensures { λ r. ⌜ PredecessorSet (jobsOf (now (rows .entry)) k) i r ⌝ }
 {
     let n = predecessor_count(rows, k, i);
+    let mut set = 0;
     let mut j = 0;
     while j < n {
-        if !is_started(s, m, k, predecessor(rows, k, i, j)) {
-            return false;
-        }
+        set = set | (1u64 << predecessor(rows, k, i, j));
         j += 1;
     }
-    true
+    set
 }
 
-fn is_candidate(rows: &[u32], k: usize, s: &[u32], m: usize, i: usize) -> bool
-    requires { ⌜ (i < k) × Readable (now rows) k (now s) m ⌝ }
-    ensures { λ r. ⌜ r ≡ candidate (jobsOf (now (rows .entry)) k) (stateOf m k (now (s .entry))) i ⌝ }
+// Writes for each job the set of its predecessors. This is done once for all states.
+pub fn write_predecessor_sets(rows: &[u32], k: usize, sets: &mut [u64])
+    requires { ⌜ Rows (now rows) k × (k ≤ mostJobs) × (k ≤ length (now sets)) ⌝ }
+    ensures { λ _. ⌜ PredecessorSets (jobsOf (now (rows .entry)) k) k (now (sets .exit)) ⌝ }
 {
-    if is_started(s, m, k, i) {
-        return false;
+    let mut i = 0;
+    while i < k {
+        sets[i] = predecessor_set(rows, k, i);
+        i += 1;
     }
-    predecessors_started(rows, k, s, m, i)
+}
+
+// Whether job j is not in the set, and all its predecessors, those in `needed`, are. One comparison tells both: no job is its own predecessor.
+fn is_candidate(set: u64, needed: u64, j: usize) -> bool
+    requires { ⌜ j < mostJobs ⌝ }
+    ensures { λ r. ⌜ ((js : List Job) → PredecessorSet js j needed → r ≡ (not (inSet set j) && every (inSet set) (predecessors js j))) ⌝ }
+{
+    (needed | (1u64 << j)) & set == needed
 }
 
 // Lists the candidates by rising number, and answers how many there are. This is done once for each state: all of its edges ask for candidates.
-pub fn list_candidates(rows: &[u32], k: usize, s: &[u32], m: usize, list: &mut [u32]) -> usize
-    requires { ⌜ Readable (now rows) k (now s) m × (k ≤ length (now list)) ⌝ }
+pub fn list_candidates(sets: &[u64], k: usize, s: &[u32], m: usize, list: &mut [u32]) -> usize
+    requires { ⌜ (k ≤ mostJobs) × (stateWords m k ≤ length (now s)) × (k ≤ length (now sets)) × (k ≤ length (now list)) ⌝ }
     ensures { λ r. ⌜ (r ≤ length (now (list .exit)))
-        × (take r (now (list .exit)) ≡ candidates (jobsOf (now (rows .entry)) k) (stateOf m k (now (s .entry))) k) ⌝ }
+        × ((js : List Job) → PredecessorSets js k (now (sets .entry))
+        → take r (now (list .exit)) ≡ candidates js (stateOf m k (now (s .entry))) k) ⌝ }
 {
+    let set = started_set(s);
     let mut n = 0;
     let mut j = 0;
     while j < k {
         list[n] = j as u32;
-        n += is_candidate(rows, k, s, m, j) as usize;
+        n += is_candidate(set, sets[j], j) as usize;
         j += 1;
     }
     n
@@ -168,13 +183,26 @@ fn may_lower(rows: &[u32], k: usize, i: usize, j: usize, first: u32) -> bool
     goes_before(rows, k, j, i)
 }
 
-fn higher_priority_bound(rows: &[u32], k: usize, s: &[u32], m: usize, list: &[u32], i: usize) -> u32
-    requires { ⌜ (i < k) × Prepared (now rows) k (now s) m (now list) ⌝ }
-    ensures { λ r. ⌜ r ≡ limitWord (higherPriorityBound (jobsOf (now (rows .entry)) k) (stateOf m k (now (s .entry))) i) ⌝ }
+// The bound, as far as it lies past `start`: one that does not holds the job back, whichever it is.
+fn higher_priority_bound(
+    rows: &[u32],
+    k: usize,
+    s: &[u32],
+    m: usize,
+    list: &[u32],
+    i: usize,
+    start: u32,
+) -> u32
+    requires { ⌜ (i < k) × Prepared (now rows) k (now s) m (now list) × (start ≤ latestTime) ⌝ }
+    ensures { λ r. ⌜ max start r
+        ≡ max start (limitWord (higherPriorityBound (jobsOf (now (rows .entry)) k) (stateOf m k (now (s .entry))) i)) ⌝ }
 {
     let mut first = NO_LIMIT;
     let mut t = 0;
     while t < list.len() {
+        if first <= start {
+            return first;
+        }
         let j = list[t] as usize;
         if may_lower(rows, k, i, j, first) {
             first = smaller(first, certainly_ready_beside(rows, k, s, m, i, j));
@@ -209,7 +237,7 @@ pub fn edge_of(
     if bound < start {
         return Edge::NotEligible;
     }
-    let higher = higher_priority_bound(rows, k, s, m, list, i);
+    let higher = higher_priority_bound(rows, k, s, m, list, i, start);
     if higher <= start {
         return Edge::NotEligible;
     }

@@ -34,7 +34,7 @@ returns c =
     past-the-bound js σ (s .args .i) (e .result) (s .args .bound) (e .ensures) (s .pre .3) (c .if1 .taken)
 
 higher-priority-bound-requires : tie.Need-higher-priority-bound-requires
-higher-priority-bound-requires c κs = search needs
+higher-priority-bound-requires c κs = (c .before .before .before .before .before .pre .0, c .before .before .before .before .before .pre .1, early (c .before))
 
 returns-2 : tie.Need-returns-2
 returns-2 c =
@@ -59,8 +59,8 @@ returns-3 c =
     let js = jobsOf (now (s .args .rows)) (s .args .k) in
     let σ = stateOf (s .args .m) (s .args .k) (now (s .args .s)) in
     let b : s .args .bound ≤ latestTime = omega (arith, s .pre .3, bound-up-to js latestTime (s .pre .1 .readable .setting .timed) σ (s .pre .1 .bounded)) in
-    starts js σ (s .args .i) (e .result) (s .args .bound) (e .ensures) (s .pre .3) (h .result) (h .ensures) (early (c .before .before .before .before)) b (s .pre .2)
-    (c .before .before .before .if1 .left) (c .before .if2 .left) (c .smaller .result) (c .smaller .ensures)
+    starts js σ (s .args .i) (e .result) (s .args .bound) (e .ensures) (s .pre .3) (h .result) (h .ensures) (c .before .if2 .left) b (s .pre .2)
+    (c .before .before .before .if1 .left) (c .smaller .result) (c .smaller .ensures)
 
 pub edge-of-spec : {M : Type 1} → statement M
 edge-of-spec =

@@ -1,5 +1,5 @@
 -- `edges::higher_priority_bound` meets its contract. The loop's invariant: `first` is the smallest over the candidates before place t. Assumes nothing.
-use Prim.Native.Nat.{ℕ, _+_, _-_, _<_, _≤_, min}
+use Prim.Native.Nat.{ℕ, _+_, _-_, _<_, _≤_, min, max}
 use mathlib.Core.Path.{_≡_, refl, sym, ap, _∙_}
 use mathlib.Core.Logic.{⊎-elim}
 use mathlib.Core.Bool.{Bool}
@@ -18,28 +18,41 @@ use Rattle.jobs.proofs.Jobs.{length-jobs}
 use Rattle.states.specs.Slots.{stateOf}
 use Rattle.edges.specs.Edges.{limitWord}
 use Rattle.edges.proofs.Listing.{listed-candidate}
-use Rattle.edges.proofs.Folds.{smallestIn, smallest-with, smallest-kept}
+use Rattle.edges.proofs.Folds.{smallestIn, smallest-with, smallest-kept, smallest-of-all}
 use Rattle.edges.proofs.Edges.{higher-listed}
 use Rattle.edges.proofs.higher_priority_bound.Statement.{statement}
 use Rattle.edges.proofs.higher_priority_bound.Tie as tie
 
 abbrev Inv-loop : tie.InvT-loop
-Inv-loop rows k s m list i first₀ t₀ first t =
+Inv-loop rows k s m list i start first₀ t₀ first t =
     (t ≤ length list) × (first ≡ limitWord (smallestIn (λ j. before (jobsOf rows k) j i) (certainlyReadyBeside (jobsOf rows k) (stateOf m k s) i) (take t list)))
 
 abbrev μ-loop : tie.MeasureT-loop
-μ-loop rows k s m list i first₀ t₀ first t = length list - t
+μ-loop rows k s m list i start first₀ t₀ first t = length list - t
 
 loop-holds : tie.Need-loop-holds Inv-loop μ-loop
 loop-holds c = (omega arith, refl)
 
--- the job at place t is a candidate
-below : (c : tie.After-shared-slice-known4 Inv-loop μ-loop) → getD (now (c .before .before .before .before .before .before .args .list)) (c .before .before .loop .t) 0 < c .before .before .before .before .before .before .args .k
-below c =
+returns : tie.Need-returns Inv-loop μ-loop
+returns c =
     let s = c .before .before .before .before .before .before in
+    let i = c .before .before .loop in
     let js = jobsOf (now (s .args .rows)) (s .args .k) in
     let σ = stateOf (s .args .m) (s .args .k) (now (s .args .s)) in
-    listed-candidate js σ (s .args .k) (now (s .args .list)) (s .pre .1 .listed) (c .before .before .loop .t) (omega arith) .0
+    let l = now (s .args .list) in
+    let q : ℕ → Bool = λ j. before js j (s .args .i) in
+    let f = certainlyReadyBeside js σ (s .args .i) in
+    let all = higher-listed js σ (s .args .k) l (s .pre .1 .listed) (sym (length-jobs (now (s .args .rows)) (s .args .k))) (s .args .i) in
+    let low : limitWord (smallestIn q f l) ≤ i .first = smallest-of-all q f l (i .t) (i .first) (i .inv .1) (omega (arith, c .if1 .taken, s .pre .2)) in
+    omega (arith, c .if1 .taken, low, ap limitWord all)
+
+-- the job at place t is a candidate
+below : (c : tie.After-shared-slice-known4 Inv-loop μ-loop) → getD (now (c .before .before .before .before .before .before .before .args .list)) (c .before .before .before .loop .t) 0 < c .before .before .before .before .before .before .before .args .k
+below c =
+    let s = c .before .before .before .before .before .before .before in
+    let js = jobsOf (now (s .args .rows)) (s .args .k) in
+    let σ = stateOf (s .args .m) (s .args .k) (now (s .args .s)) in
+    listed-candidate js σ (s .args .k) (now (s .args .list)) (s .pre .1 .listed) (c .before .before .before .loop .t) (omega arith) .0
 
 mul-j : tie.Need-mul-j Inv-loop μ-loop
 mul-j c = search needs
@@ -51,10 +64,10 @@ cast-j : tie.Need-cast-j Inv-loop μ-loop
 cast-j c = omega (arith, below c)
 
 may-lower-requires : tie.Need-may-lower-requires Inv-loop μ-loop
-may-lower-requires c κs = (c .before .before .before .before .before .before .pre .0, below c, c .before .before .before .before .before .before .pre .1 .readable .setting .rows-of)
+may-lower-requires c κs = (c .before .before .before .before .before .before .before .pre .0, below c, c .before .before .before .before .before .before .before .pre .1 .readable .setting .rows-of)
 
 certainly-ready-beside-requires : tie.Need-certainly-ready-beside-requires Inv-loop μ-loop
-certainly-ready-beside-requires c κs = (c .before .before .before .before .before .before .before .before .pre .0, below (c .before .before), c .before .before .before .before .before .before .before .before .pre .1 .readable)
+certainly-ready-beside-requires c κs = (c .before .before .before .before .before .before .before .before .before .pre .0, below (c .before .before), c .before .before .before .before .before .before .before .before .before .pre .1 .readable)
 
 smaller-requires : tie.Need-smaller-requires Inv-loop μ-loop
 smaller-requires c κs = search needs
@@ -68,8 +81,8 @@ loop-less c = search needs
 loop-again : tie.Need-loop-again Inv-loop μ-loop
 unfolding certainlyReadyBeside
 loop-again c =
-    let s = c .before .before .before .before .before .before .before .before in
-    let i = c .before .before .before .before .loop in
+    let s = c .before .before .before .before .before .before .before .before .before in
+    let i = c .before .before .before .before .before .loop in
     let js = jobsOf (now (s .args .rows)) (s .args .k) in
     let σ = stateOf (s .args .m) (s .args .k) (now (s .args .s)) in
     let l = now (s .args .list) in
@@ -81,23 +94,24 @@ loop-again c =
     let after : job js j .latestRelease ≤ f j = omega arith in
     let h : i .t < length l = omega arith in (
       omega arith,
-      ⊎-elim {C = c .if1 .first ≡ limitWord (smallestIn q f (take (i .t + 1) l))}
+      ⊎-elim {C = c .if2 .first ≡ limitWord (smallestIn q f (take (i .t + 1) l))}
           (λ w. w .3 ∙ w .2 .ensures ∙ ap (min (i .first)) (w .1 .ensures)
           ∙ smallest-with q f l (i .t) (i .first) h (i .inv .1) (and-right (ltb (job js j .latestRelease) (i .first)) (q j) (sym (r .ensures) ∙ w .0 .taken)) (omega (arith, w .1 .ok, w .1 .ensures)))
           (λ w. w .1 ∙ smallest-kept q f l (i .t) (i .first) h (i .inv .1) (job js j .latestRelease) (omega (arith, in-time)) after (sym (r .ensures) ∙ w .0 .left))
-          (c .if1 .came),
+          (c .if2 .came),
     )
 
-returns : tie.Need-returns Inv-loop μ-loop
-returns c =
+returns-2 : tie.Need-returns-2 Inv-loop μ-loop
+returns-2 c =
     let s = c .before .before .before .before .before in
     let js = jobsOf (now (s .args .rows)) (s .args .k) in
     let σ = stateOf (s .args .m) (s .args .k) (now (s .args .s)) in
     let l = now (s .args .list) in
     let i = s .args .i in
     let e : take (c .before .loop .t) l ≡ l = take-all (c .before .loop .t) l (omega arith) in
-    c .before .loop .inv .1 ∙ ap (λ (x : List ℕ). limitWord (smallestIn (λ j. before js j i) (certainlyReadyBeside js σ i) x)) e
-    ∙ ap limitWord (higher-listed js σ (s .args .k) l (s .pre .1 .listed) (sym (length-jobs (now (s .args .rows)) (s .args .k))) i)
+    ap (max (s .args .start))
+    (c .before .loop .inv .1 ∙ ap (λ (x : List ℕ). limitWord (smallestIn (λ j. before js j i) (certainlyReadyBeside js σ i) x)) e
+    ∙ ap limitWord (higher-listed js σ (s .args .k) l (s .pre .1 .listed) (sym (length-jobs (now (s .args .rows)) (s .args .k))) i))
 
 pub higher-priority-bound-spec : {M : Type 1} → statement M
 higher-priority-bound-spec =
@@ -106,6 +120,7 @@ higher-priority-bound-spec =
     Inv-loop
     μ-loop
     loop-holds
+    returns
     mul-j
     shared-slice-read-j
     cast-j
@@ -115,4 +130,4 @@ higher-priority-bound-spec =
     add-t
     loop-less
     loop-again
-    returns)
+    returns-2)

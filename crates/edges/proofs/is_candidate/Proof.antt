@@ -1,22 +1,16 @@
 -- `edges::is_candidate` meets its contract. Assumes nothing.
+use native.Mathlib.Omega.{arith}
 use borrow.Author.Needs.{needs}
-use Rattle.model.specs.Edges.{candidate}
+use Rattle.edges.proofs.Bits.{shifted-one}
+use Rattle.edges.proofs.Candidates.{candidate-test}
 use Rattle.edges.proofs.is_candidate.Statement.{statement}
 use Rattle.edges.proofs.is_candidate.Tie as tie
 
-is-started-requires : tie.Need-is-started-requires
-is-started-requires c κs = search needs
+shl-result : tie.Need-shl-result
+shl-result c = search needs
 
 returns : tie.Need-returns
-unfolding candidate
-returns c = rw (← c .before .is-started .ensures, c .if1 .taken)
-
-predecessors-started-requires : tie.Need-predecessors-started-requires
-predecessors-started-requires c κs = search needs
-
-returns-2 : tie.Need-returns-2
-unfolding candidate
-returns-2 c = rw (← c .before .before .is-started .ensures, c .before .if1 .left) (c .predecessors-started .ensures)
+returns c js p = rw (shifted-one 64 (c .args .j) (omega arith)) (candidate-test js (c .args .j) (c .args .needed) p (c .args .set))
 
 pub is-candidate-spec : {M : Type 1} → statement M
-is-candidate-spec = tie.close (tie.spec is-started-requires returns predecessors-started-requires returns-2)
+is-candidate-spec = tie.close (tie.spec shl-result returns)

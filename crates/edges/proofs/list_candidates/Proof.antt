@@ -1,29 +1,35 @@
 -- `edges::list_candidates` meets its contract. The loop's invariant: the first n words are the candidates below j. Assumes nothing.
-use Prim.Native.Nat.{_-_, _≤_}
+use Prim.Native.Nat.{_-_, _<_, _≤_}
 use mathlib.Core.Path.{_≡_, refl, ap, _∙_}
+use mathlib.Core.List.{List}
 use native.Mathlib.Omega.{arith}
-use lib.ListN.{length, take, length-set}
+use lib.ListN.{getD, length, take, length-set}
 use denote.Ref.{now}
 use borrow.Author.Needs.{needs}
+use Rattle.model.specs.Jobs.{Job}
 use Rattle.model.specs.Edges.{candidate}
 use Rattle.model.proofs.Booleans.{ind-le}
-use Rattle.jobs.specs.Rows.{jobsOf}
 use Rattle.states.specs.Slots.{stateOf}
-use Rattle.edges.specs.Edges.{listBelow, candidates}
+use Rattle.edges.specs.Edges.{PredecessorSets, listBelow, candidates}
 use Rattle.edges.proofs.Listing.{list-next}
+use Rattle.edges.proofs.Candidates.{candidate-of}
 use Rattle.edges.proofs.list_candidates.Statement.{statement}
 use Rattle.edges.proofs.list_candidates.Tie as tie
 
 abbrev Inv-loop : tie.InvT-loop
-Inv-loop rows k s m list₀ n₀ j₀ list n j =
-    (j ≤ k) × (n ≤ j) × (length list ≡ length list₀) × (take n list ≡ candidates (jobsOf rows k) (stateOf m k s) j)
+Inv-loop sets k s m list₀ set n₀ j₀ list n j =
+    (j ≤ k) × (n ≤ j) × (length list ≡ length list₀)
+    × ((js : List Job) → PredecessorSets js k sets → take n list ≡ candidates js (stateOf m k s) j)
 
 abbrev μ-loop : tie.MeasureT-loop
-μ-loop rows k s m list₀ n₀ j₀ list n j = k - j
+μ-loop sets k s m list₀ set n₀ j₀ list n j = k - j
+
+started-set-requires : tie.Need-started-set-requires Inv-loop μ-loop
+started-set-requires c κs = search needs
 
 loop-holds : tie.Need-loop-holds Inv-loop μ-loop
 unfolding listBelow
-loop-holds c = (omega arith, omega arith, refl, refl)
+loop-holds c = (omega arith, omega arith, refl, λ js p. refl)
 
 cast-list : tie.Need-cast-list Inv-loop μ-loop
 cast-list c = search needs
@@ -33,6 +39,12 @@ mul-list c = search needs
 
 slice-write-list : tie.Need-slice-write-list Inv-loop μ-loop
 slice-write-list c = search needs
+
+mul-is-candidate : tie.Need-mul-is-candidate Inv-loop μ-loop
+mul-is-candidate c = search needs
+
+shared-slice-read-is-candidate : tie.Need-shared-slice-read-is-candidate Inv-loop μ-loop
+shared-slice-read-is-candidate c = search needs
 
 is-candidate-requires : tie.Need-is-candidate-requires Inv-loop μ-loop
 is-candidate-requires c κs = search needs
@@ -51,14 +63,18 @@ loop-less c = search needs
 
 loop-again : tie.Need-loop-again Inv-loop μ-loop
 loop-again c =
-    let a = c .before .before .before .before .before .before .args in
-    let i = c .before .before .loop in
-    let p = candidate (jobsOf (now (a .rows)) (a .k)) (stateOf (a .m) (a .k) (now (a .s))) in
-    let t = c .is-candidate in (
+    let a = c .before .before .before .before .before .before .before .before .args in
+    let i = c .before .before .before .loop in
+    let g = c .before .before .before .before .started-set in
+    let t = c .is-candidate in
+    let h : i .j < a .k = omega arith in
+    let σ = stateOf (a .m) (a .k) (now (a .s)) in
+    let tells : (js : List Job) → PredecessorSets js (a .k) (now (a .sets)) → t .result ≡ candidate js σ (i .j) =
+    λ js p. t .ensures js (p (i .j) h) ∙ candidate-of js (i .j) (getD (now (a .sets)) (i .j) 0) (p (i .j) h) (a .m) (a .k) (now (a .s)) (g .result) (g .ensures) h in (
       omega arith,
       omega (arith, ind-le (t .result)),
       simp length-set (i .inv .2),
-      list-next p (i .list) (i .n) (i .j) (t .result) (omega (arith, i .inv .2)) (i .inv .3) (t .ensures),
+      λ js p. list-next (candidate js σ) (i .list) (i .n) (i .j) (t .result) (omega (arith, i .inv .2)) (i .inv .3 js p) (tells js p),
     )
 
 same-length : tie.Need-same-length Inv-loop μ-loop
@@ -66,10 +82,10 @@ same-length c = search needs
 
 returns : tie.Need-returns Inv-loop μ-loop
 returns c =
-    let a = c .before .before .before .before .before .args in
+    let a = c .before .before .before .before .before .before .args in
     let i = c .before .loop in
     let all : i .j ≡ a .k = omega arith in
-    (omega (arith, i .inv .2), i .inv .3 ∙ ap (candidates (jobsOf (now (a .rows)) (a .k)) (stateOf (a .m) (a .k) (now (a .s)))) all)
+    (omega (arith, i .inv .2), λ js p. i .inv .3 js p ∙ ap (candidates js (stateOf (a .m) (a .k) (now (a .s)))) all)
 
 pub list-candidates-spec : {M : Type 1} → statement M
 list-candidates-spec =
@@ -77,10 +93,13 @@ list-candidates-spec =
     (tie.spec
     Inv-loop
     μ-loop
+    started-set-requires
     loop-holds
     cast-list
     mul-list
     slice-write-list
+    mul-is-candidate
+    shared-slice-read-is-candidate
     is-candidate-requires
     cast-n
     add-n

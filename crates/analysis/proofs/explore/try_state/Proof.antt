@@ -1,7 +1,12 @@
 -- `try_state` meets its contract. Assumes nothing.
-use mathlib.Core.Path.{sym}
+use mathlib.Core.Path.{_≡_, sym}
+use lib.ListN.{take}
 use lib.Seq.{length-take-le}
+use denote.Ref.{now}
 use borrow.Author.Needs.{needs}
+use Rattle.jobs.specs.Rows.{jobsOf}
+use Rattle.states.specs.Slots.{stateOf}
+use Rattle.edges.specs.Edges.{candidates}
 use Rattle.analysis.proofs.explore.try_state.Statement.{statement}
 use Rattle.analysis.proofs.explore.try_state.Tie as tie
 
@@ -10,7 +15,7 @@ slice-aggregate-list-candidates c = search needs
 
 list-candidates-requires : tie.Need-list-candidates-requires
 list-candidates-requires c κs =
-    let p = c .before .before .before .before .before .before .pre in (record { setting = p .0; words = p .1 }, p .0 .jobs)
+    let p = c .before .before .before .before .before .before .before .pre in (p .0 .0 .jobs, p .1 .0, p .0 .1, p .0 .0 .jobs)
 
 array-share-prefix-list : tie.Need-array-share-prefix-list
 array-share-prefix-list c = search needs
@@ -18,10 +23,14 @@ array-share-prefix-list c = search needs
 slice-aggregate-work-conserving-bound : tie.Need-slice-aggregate-work-conserving-bound
 slice-aggregate-work-conserving-bound c = sym (length-take-le _ _ (c .before .before .list-candidates .ensures .0))
 
+-- the listed jobs are the candidates
+listed : (c : tie.After-list-candidates) → take (c .list-candidates .result) (c .list-candidates .last .1 .1 .1 .1 .0) ≡ candidates (jobsOf (now (c .before .before .before .before .before .before .before .before .args .rows)) (c .before .before .before .before .before .before .before .before .args .k)) (stateOf (c .before .before .before .before .before .before .before .before .args .m) (c .before .before .before .before .before .before .before .before .args .k) (now (c .before .before .before .before .before .before .before .before .args .cur))) (c .before .before .before .before .before .before .before .before .args .k)
+listed c = c .list-candidates .ensures .1 (jobsOf (now (c .before .before .before .before .before .before .before .before .args .rows)) (c .before .before .before .before .before .before .before .before .args .k)) (c .before .before .before .before .before .before .before .before .pre .0 .2)
+
 work-conserving-bound-requires : tie.Need-work-conserving-bound-requires
 work-conserving-bound-requires c κs =
-    let p = c .before .before .before .before .before .before .before .before .before .pre in
-    record { readable = record { setting = p .0; words = p .1 }; bounded = p .2 .bounded; listed = c .before .before .list-candidates .ensures .1 }
+    let p = c .before .before .before .before .before .before .before .before .before .before .pre in
+    record { readable = record { setting = p .0 .0; words = p .1 .0 }; bounded = p .1 .1 .bounded; listed = listed (c .before .before) }
 
 array-share-prefix-list-2 : tie.Need-array-share-prefix-list-2
 array-share-prefix-list-2 c = search needs
@@ -31,8 +40,8 @@ slice-aggregate-try-jobs c = sym (length-take-le _ _ (c .before .before .before 
 
 try-jobs-requires : tie.Need-try-jobs-requires
 try-jobs-requires c κs =
-    let p = c .before .before .before .before .before .before .before .before .before .before .before .before .before .before .pre in
-    (record { setting = p .0; words = p .1; sound = p .2; target = p .3; observed = p .4 }, c .before .before .before .before .before .before .before .list-candidates .ensures .1, c .before .before .before .before .work-conserving-bound .ensures)
+    let p = c .before .before .before .before .before .before .before .before .before .before .before .before .before .before .before .pre in
+    (record { setting = p .0 .0; words = p .1 .0; sound = p .1 .1; target = p .1 .2; observed = p .1 .3 }, listed (c .before .before .before .before .before .before .before), c .before .before .before .before .work-conserving-bound .ensures)
 
 same-length : tie.Need-same-length
 same-length c = search needs

@@ -11,17 +11,17 @@ use Rattle.analysis.proofs.levels.build_level.Statement.{statement}
 use Rattle.analysis.proofs.levels.build_level.Tie as tie
 
 abbrev Inv-loop : tie.InvT-loop
-Inv-loop table₀ seen₀ heads₀ from to n cap rows k m w end built₀ j₀ table seen heads built j = Building rows k m cap from to n table₀ seen₀ table seen heads built j
+Inv-loop table₀ seen₀ heads₀ from to n cap rows sets k m w end built₀ j₀ table seen heads built j = Building rows k m cap from to n table₀ seen₀ table seen heads built j
 
 abbrev μ-loop : tie.MeasureT-loop
-μ-loop table₀ seen₀ heads₀ from to n cap rows k m w end built₀ j₀ table seen heads built j = n - j
+μ-loop table₀ seen₀ heads₀ from to n cap rows sets k m w end built₀ j₀ table seen heads built j = n - j
 
 state-words-requires : tie.Need-state-words-requires Inv-loop μ-loop
 state-words-requires c κs = search needs
 
 -- the half that is written lies in the table
-target : (c : tie.After-state-words Inv-loop μ-loop) → c .before .before .before .before .before .args .to + c .before .before .before .before .before .args .cap * c .state-words .result ≤ length (now (c .before .before .before .before .before .args .table))
-target c = omega (arith, ap (λ (z : ℕ). c .before .before .before .before .before .args .cap * z) (c .state-words .ensures), c .before .before .before .before .before .pre .1 .target)
+target : (c : tie.After-state-words Inv-loop μ-loop) → c .before .before .before .before .before .before .args .to + c .before .before .before .before .before .before .args .cap * c .state-words .result ≤ length (now (c .before .before .before .before .before .before .args .table))
+target c = omega (arith, ap (λ (z : ℕ). c .before .before .before .before .before .before .args .cap * z) (c .state-words .ensures), c .before .before .before .before .before .before .pre .1 .0 .target)
 
 mul-end : tie.Need-mul-end Inv-loop μ-loop
 mul-end c = omega (arith, target c)
@@ -31,11 +31,11 @@ add-end c = omega (arith, target c)
 
 loop-holds : tie.Need-loop-holds Inv-loop μ-loop
 loop-holds c =
-    let a = c .before .before .before .before .before in
-    building-starts (a .pre .1) (a .pre .2) (a .pre .3) (a .pre .4)
+    let a = c .before .before .before .before .before .before in
+    building-starts (a .pre .1 .0) (a .pre .1 .1) (a .pre .1 .2) (a .pre .1 .3)
 
 -- the state that is read lies in the table
-read : (c : tie.In-loop Inv-loop μ-loop) → c .before .before .before .before .before .before .before .args .from + c .before .loop .j * c .before .before .state-words .result + c .before .before .state-words .result ≤ length (c .before .loop .table)
+read : (c : tie.In-loop Inv-loop μ-loop) → c .before .before .before .before .before .before .before .before .args .from + c .before .loop .j * c .before .before .state-words .result + c .before .before .state-words .result ≤ length (c .before .loop .table)
 read c =
     let i = c .before .loop in
     let s = c .before .before .state-words in
@@ -67,11 +67,11 @@ part-load-state-end c = omega (arith, read (c .before .before))
 
 load-state-requires : tie.Need-load-state-requires Inv-loop μ-loop
 load-state-requires c κs =
-    let a = c .before .before .before .before .before .before .before .before .before .before in
+    let a = c .before .before .before .before .before .before .before .before .before .before .before in
     let s = c .before .before .before .before .before .state-words in
     let at = a .args .from + c .before .before .before .before .loop .j * s .result in
     let l = part-length at (at + s .result - at) (c .before .before .before .before .loop .table) (omega (arith, read (c .before .before .before))) in
-    (a .pre .0 .few-cores, a .pre .0 .jobs, omega (arith, a .pre .0 .few-cores, a .pre .0 .jobs), omega (arith, l, s .ensures))
+    (a .pre .0 .0 .few-cores, a .pre .0 .0 .jobs, omega (arith, a .pre .0 .0 .few-cores, a .pre .0 .0 .jobs), omega (arith, l, s .ensures))
 
 mul-try-state : tie.Need-mul-try-state Inv-loop μ-loop
 mul-try-state c = search needs
@@ -90,24 +90,26 @@ slice-aggregate-try-state c = search needs
 
 try-state-requires : tie.Need-try-state-requires Inv-loop μ-loop
 try-state-requires c κs =
-    let a = c .before .before .before .before .before .before .before .before .before .before .before .before .before .before .before .before in
+    let a = c .before .before .before .before .before .before .before .before .before .before .before .before .before .before .before .before .before in
     let i = c .before .before .before .before .before .before .before .before .before .before .loop in
     let s = c .before .before .before .before .before .before .before .before .before .before .before .state-words in
     let t = c .before .before .before .before .before .before .before .before .before .loop-test .taken in
     let l = c .before .before .before .before .before .load-state in (
       a .pre .0,
-      omega (arith, l .kept .0, a .pre .0 .jobs, a .pre .0 .few-cores),
-      loaded-sound (i .inv) (s .ensures) t (l .last .0) (l .ensures .0) (l .ensures .1),
-      target-half (i .inv) (s .ensures) t,
-      i .inv .observed,
+      (
+        omega (arith, l .kept .0, a .pre .0 .0 .jobs, a .pre .0 .0 .few-cores),
+        loaded-sound (i .inv) (s .ensures) t (l .last .0) (l .ensures .0) (l .ensures .1),
+        target-half (i .inv) (s .ensures) t,
+        i .inv .observed,
+      ),
     )
 
 -- no slice changes its length
-kept : (c : tie.After-try-state Inv-loop μ-loop) → (length (c .try-state .last .1 .0) ≡ length (now (c .before .before .before .before .before .before .before .before .before .before .before .before .before .before .before .before .before .args .seen))) × (length (c .try-state .last .1 .1 .0) ≡ length (now (c .before .before .before .before .before .before .before .before .before .before .before .before .before .before .before .before .before .args .heads)))
+kept : (c : tie.After-try-state Inv-loop μ-loop) → (length (c .try-state .last .1 .0) ≡ length (now (c .before .before .before .before .before .before .before .before .before .before .before .before .before .before .before .before .before .before .args .seen))) × (length (c .try-state .last .1 .1 .0) ≡ length (now (c .before .before .before .before .before .before .before .before .before .before .before .before .before .before .before .before .before .before .args .heads)))
 kept c =
-    let p = c .before .before .before .before .before .before .before .before .before .before .before .before .before .before .before .before .before .pre in
+    let p = c .before .before .before .before .before .before .before .before .before .before .before .before .before .before .before .before .before .before .pre in
     let i = c .before .before .before .before .before .before .before .before .before .before .before .loop .inv in
-    let k = c .try-state .kept in (k .1 .0 ∙ i .observed .long ∙ sym (p .3 .long), k .1 .1 .0 ∙ i .target .1 .long ∙ sym (p .4))
+    let k = c .try-state .kept in (k .1 .0 ∙ i .observed .long ∙ sym (p .1 .2 .long), k .1 .1 .0 ∙ i .target .1 .long ∙ sym (p .1 .3))
 
 enum-known-x : tie.Need-enum-known-x Inv-loop μ-loop
 enum-known-x c = search needs
