@@ -19,7 +19,7 @@ use Rattle.format.specs.Valid.{AreBytes}
 use Rattle.format.specs.Analysable.{Analysable}
 use Rattle.format.proofs.Sound.{sound}
 use Rattle.format.proofs.Analysable.{analysable}
-use Rattle.checker.specs.Checking.{capacityFor, verdict, resultOf, jobsRead, checkedOf, writtenOf, writtenFor, boundsOf}
+use Rattle.checker.specs.Checking.{capacityFor, verdict, resultOf, jobsRead, checkedOf, toldOf, toldFor, boundsOf}
 use Rattle.checker.specs.declared.Answer.the-variants.{Accepted}
 use Rattle.checker.specs.declared.Checked.{Checked}
 use Rattle.checker.proofs.Handover.{timed}
@@ -47,10 +47,10 @@ runs-kept file bytes words r p x e =
 
 -- ---- what is written of the answer
 
-of-verdict : (js : List Job) (v : Verdict) → writtenOf (resultOf js v .answer) ≡ writtenFor v
+of-verdict : (js : List Job) (v : Verdict) → toldOf (resultOf js v .answer) ≡ toldFor v
 of-verdict js (accepted bounds c) = refl
 of-verdict js (refused n at) = refl
 of-verdict js (late i e f) = refl
 
-pub as-written : (o : Outcome Phrase) (words : ℕ) (r : Checked) → r ≡ checkedOf o words → writtenOf (r .answer) ≡ writtenFor (verdict o words)
-as-written o words r p = ap (λ (y : Checked). writtenOf (y .answer)) p ∙ of-verdict (jobsRead o) (verdict o words)
+pub as-written : (o : Outcome Phrase) (words : ℕ) (r : Checked) → r ≡ checkedOf o words → toldOf (r .answer) ≡ toldFor (verdict o words)
+as-written o words r p = ap (λ (y : Checked). toldOf (y .answer)) p ∙ of-verdict (jobsRead o) (verdict o words)

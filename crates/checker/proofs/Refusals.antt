@@ -14,21 +14,21 @@ use Rattle.format.specs.Reading.{mostBytes, Outcome, ok, reading}
 use Rattle.format.specs.Reading.{refused as unread}
 use Rattle.format.specs.Valid.{AreBytes}
 use Rattle.format.proofs.Refusals.{refused-within as unread-within}
-use Rattle.checker.specs.Checking.{capacityFor, verdict, writtenFor}
+use Rattle.checker.specs.Checking.{capacityFor, verdict, toldFor}
 use Rattle.checker.proofs.Promise.{can-analyse}
 
 -- a level, or a job
-analysed-place : (js : List Job) (m cap : ℕ) → length js ≤ mostJobs → (v : Verdict) → analysis js m cap ≡ v → writtenFor v .place ≤ mostJobs
+analysed-place : (js : List Job) (m cap : ℕ) → length js ≤ mostJobs → (v : Verdict) → analysis js m cap ≡ v → toldFor v .place ≤ mostJobs
 analysed-place js m cap few (accepted bounds c) e = omega arith
 analysed-place js m cap few (refused n at) e = omega (arith, refused-within js m cap n at e)
 analysed-place js m cap few (late i x y) e = omega (arith, late-within js m cap i x y e)
 
 module _ (file : List ℕ) (bytes : AreBytes file) (words : ℕ) where
-  verdict-place : (o : Outcome Phrase) → reading file ≡ o → writtenFor (verdict o words) .place ≤ mostBytes
+  verdict-place : (o : Outcome Phrase) → reading file ≡ o → toldFor (verdict o words) .place ≤ mostBytes
   verdict-place (ok x) e =
       omega (arith, analysed-place (jobsOf x) (x .cores) (capacityFor x words) (can-analyse file bytes x e .jobCount) (verdict (ok x) words) refl)
   verdict-place (unread n at) e = omega (arith, unread-within file n at e)
 
   -- No place is beyond the longest file of a phrase.
-  pub place-within : writtenFor (verdict (reading file) words) .place ≤ mostBytes
+  pub place-within : toldFor (verdict (reading file) words) .place ≤ mostBytes
   place-within = verdict-place (reading file) refl

@@ -84,22 +84,22 @@ checkedOf o words = resultOf (jobsRead o) (verdict o words)
 -- ---- what a result says
 
 -- what document 01 writes of an answer: the number of a refusal and its place; of a late job the finish times
-pub record Written : Type 0 where
+pub record Told : Type 0 where
   pub number : ℕ
   pub place : ℕ
   pub earliest : ℕ
   pub latest : ℕ
 
 -- 0 for what was accepted
-abbrev pub writtenOf : Answer → Written
-writtenOf Accepted = record { number = 0; place = 0; earliest = 0; latest = 0 }
-writtenOf (Refused n at) = record { number = n; place = at; earliest = 0; latest = 0 }
-writtenOf (Late i e f) = record { number = 14; place = i; earliest = e; latest = f }
+abbrev pub toldOf : Answer → Told
+toldOf Accepted = record { number = 0; place = 0; earliest = 0; latest = 0 }
+toldOf (Refused n at) = record { number = n; place = at; earliest = 0; latest = 0 }
+toldOf (Late i e f) = record { number = 14; place = i; earliest = e; latest = f }
 
-abbrev pub writtenFor : Verdict → Written
-writtenFor (accepted bounds c) = record { number = 0; place = 0; earliest = 0; latest = 0 }
-writtenFor (refused n at) = record { number = n; place = at; earliest = 0; latest = 0 }
-writtenFor (late i e f) = record { number = 14; place = i; earliest = e; latest = f }
+abbrev pub toldFor : Verdict → Told
+toldFor (accepted bounds c) = record { number = 0; place = 0; earliest = 0; latest = 0 }
+toldFor (refused n at) = record { number = n; place = at; earliest = 0; latest = 0 }
+toldFor (late i e f) = record { number = 14; place = i; earliest = e; latest = f }
 
 -- the bounds that a result reports, read off its arrays
 abbrev pub boundOf : Checked → ℕ → Range

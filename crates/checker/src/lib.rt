@@ -9,7 +9,7 @@ ghost use Rattle.format.specs.Phrase.{Phrase, jobsOf};
 ghost use Rattle.format.specs.Reading.{reading, ok};
 ghost use Rattle.format.specs.Rows.{jobTable};
 ghost use Rattle.jobs.specs.Rows.{jobsOf as jobsIn, Setting};
-ghost use Rattle.checker.specs.Checking.{verdict, levelWords, usedWords, refusing, checkedOf, writtenOf, writtenFor, boundsOf};
+ghost use Rattle.checker.specs.Checking.{verdict, levelWords, usedWords, refusing, checkedOf, toldOf, toldFor, boundsOf};
 ghost use Rattle.checker.specs.Finished.{analysedOf};
 use crate::accepting::accepting;
 use analysis::levels::Outcome;
@@ -95,7 +95,7 @@ pub fn check_rows(file: &[u8], rows: &mut [u32; JOB_TABLE], table: &mut [u32]) -
 // Checks a phrase file over a lent table. An accepted result keeps its promise in every run of the phrase.
 pub fn check(file: &[u8], table: &mut [u32]) -> Checked
     ensures answer { λ r. ⌜ r ≡ checkedOf (reading (now (file .entry))) (length (now (table .entry))) ⌝ }
-    ensures number { λ r. ⌜ writtenOf (r .answer) ≡ writtenFor (verdict (reading (now (file .entry))) (length (now (table .entry)))) ⌝ }
+    ensures number { λ r. ⌜ toldOf (r .answer) ≡ toldFor (verdict (reading (now (file .entry))) (length (now (table .entry)))) ⌝ }
     ensures table { λ _. ⌜ drop (usedWords (reading (now (file .entry))) (length (now (table .entry)))) (now (table .exit))
         ≡ drop (usedWords (reading (now (file .entry))) (length (now (table .entry)))) (now (table .entry)) ⌝ }
     ensures runs { λ r. ⌜ ((x : Phrase) → reading (now (file .entry)) ≡ ok x → r .answer ≡ Answer.Accepted

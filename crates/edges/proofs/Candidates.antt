@@ -20,7 +20,7 @@ use Rattle.model.proofs.Folds.{every-in, every-out, below-suc}
 use Rattle.states.specs.Slots.{setOf, inSet, stateOf}
 use Rattle.states.proofs.Reading.{started-at}
 use Rattle.edges.specs.Edges.{PredecessorSet, PredecessorSets}
-use Rattle.edges.proofs.Bits.{in-meet, in-union, in-one, same-set}
+use Rattle.states.proofs.Bits.{in-meet, in-union, in-one, same-set}
 
 -- ---- the set of a list's elements: each is in the set r, or left in the list from index j on
 

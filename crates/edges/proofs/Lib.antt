@@ -1,5 +1,4 @@
 -- Laws of edges.
-pub mod Bits
 pub mod Candidates
 pub mod Listing
 pub mod Folds

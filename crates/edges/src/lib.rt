@@ -22,10 +22,10 @@ use jobs::predecessor;
 use jobs::predecessor_count;
 use states::SET_WORDS;
 use states::earliest_finish;
-use states::larger;
 use states::latest_finish;
-use states::smaller;
 use states::started_set;
+use words::larger;
+use words::smaller;
 
 // The word for an infinite limit.
 const NO_LIMIT: u32 = 4294967295;

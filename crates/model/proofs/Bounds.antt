@@ -1,17 +1,17 @@
 -- Bounds on every number that the analysis stores or makes, for sums and casts of code: stored times are at most the latest deadline and release,
 -- finish times of an edge at most an execution more. Assumes nothing.
-use Prim.Native.Nat.{ℕ, zero, suc, _+_, _≤_, _<_, min, max}
+use Prim.Native.Nat.{ℕ, zero, suc, _≤_, _<_, min, max}
 use mathlib.Core.Path.{_≡_, _∙_}
-use mathlib.Core.Bool.{Bool, true, false, not, _&&_, cond}
+use mathlib.Core.Bool.{Bool, true, false, _&&_, cond}
 use mathlib.Core.List.{List, [], _∷_, map, tail, zipWith}
 use native.Mathlib.Omega.{arith}
 use lib.Dec.{leb}
 use lib.ListN.{getD, length, replicate, length-set, length-replicate}
 use borrow.Author.Tests.{leb-true, ltb-true}
-use Rattle.model.specs.Folds.{largest, member, all, Limit, infinite, finite, smallest}
+use Rattle.model.specs.Folds.{largest, all, Limit, infinite, finite, smallest}
 use Rattle.model.specs.Jobs.{Job, job, predecessors}
 use Rattle.model.specs.States.{Range, empty, range, earliest, latest, State, finishOf, first, initial}
-use Rattle.model.specs.Edges.{orZero, isBelow, lastBelow, candidate, possiblyReady, certainlyReady, earliestStart, workConservingBound, certainlyReadyBeside, higherPriorityBound, eligible, latestStart, earliestFinish, latestFinish, insert, sort, availability, successor}
+use Rattle.model.specs.Edges.{orZero, isBelow, lastBelow, candidate, possiblyReady, certainlyReady, earliestStart, workConservingBound, higherPriorityBound, eligible, latestStart, earliestFinish, latestFinish, insert, sort, availability, successor}
 use Rattle.model.specs.Exploration.{hull, merge, explored}
 use Rattle.model.proofs.Booleans.{and-left, and-right}
 use Rattle.model.proofs.Folds.{largest-le, LimitUpTo, smallest-le, set-each, getD-same}
@@ -131,10 +131,6 @@ module _ (js : List Job) (d : ℕ) (timed : TimedUpTo d js) (σ : State) (g : Bo
       go infinite h = omega arith
       go (finite x) h = h
 
-  pub higher-up-to : (i : ℕ) → LimitUpTo d (higherPriorityBound js σ i)
-  unfolding higherPriorityBound certainlyReadyBeside
-  higher-up-to i = smallest-le _ (certainlyReadyBeside js σ i) (length js) d (λ j b. omega (arith, timed .releases j b, latest-up-to (λ w. not (member w (predecessors js i))) (predecessors js j)))
-
   pub latest-start-up-to : (i : ℕ) → latestStart js σ i ≤ d
   unfolding latestStart
   latest-start-up-to i = go (higherPriorityBound js σ i)
@@ -142,10 +138,6 @@ module _ (js : List Job) (d : ℕ) (timed : TimedUpTo d js) (σ : State) (g : Bo
       go : (x : Limit) → lastBelow (workConservingBound js σ) x ≤ d
       go infinite = bound-up-to
       go (finite y) = omega (arith, bound-up-to)
-
-  pub latest-finish-up-to : (i : ℕ) → latestFinish js σ i ≤ d + job js i .mostExecution
-  unfolding latestFinish
-  latest-finish-up-to i = omega (arith, latest-start-up-to i)
 
 -- ---- stored states and observed ranges
 

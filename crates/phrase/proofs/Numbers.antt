@@ -12,16 +12,16 @@ use Rattle.format.specs.Reading.{Outcome, ok, reading}
 use Rattle.format.specs.Reading.{refused as unread}
 use Rattle.format.specs.Valid.{AreBytes}
 use Rattle.format.proofs.Refusals.{refused-within as unread-within}
-use Rattle.checker.specs.Checking.{capacityFor, verdict, Written, writtenFor}
+use Rattle.checker.specs.Checking.{capacityFor, verdict, Told, toldFor}
 use Rattle.checker.proofs.Promise.{can-analyse}
 use Rattle.checker.proofs.Refusals.{place-within}
 use Rattle.phrase.specs.Host.{places, numberOf, numberFor, Playable}
 
 module _ (file : List ℕ) (bytes : AreBytes file) (words : ℕ) where
-  pub place-apart : (w : Written) → w ≡ writtenFor (verdict (reading file) words) → w .place < places
-  place-apart w e = omega (arith, place-within file bytes words, ap (λ (y : Written). y .place) e)
+  pub place-apart : (w : Told) → w ≡ toldFor (verdict (reading file) words) → w .place < places
+  place-apart w e = omega (arith, place-within file bytes words, ap (λ (y : Told). y .place) e)
 
-  by-verdict : (x : Phrase) → reading file ≡ ok x → (v : Verdict) → verdict (ok x) words ≡ v → numberOf (writtenFor v) ≡ 0 → Playable (ok x) v
+  by-verdict : (x : Phrase) → reading file ≡ ok x → (v : Verdict) → verdict (ok x) words ≡ v → numberOf (toldFor v) ≡ 0 → Playable (ok x) v
   by-verdict x e (accepted bounds c) q z = soundness (jobsOf x) (x .cores) (capacityFor x words) (can-analyse file bytes x e .wellFormed) bounds c q
   by-verdict x e (refused n at) q z = omega (arith, refused-within (jobsOf x) (x .cores) (capacityFor x words) n at q)
   by-verdict x e (late i f l) q z = omega arith

@@ -7,7 +7,7 @@ use Rattle.model.specs.Exploration.{Answer as Verdict}
 use Rattle.format.specs.Phrase.{Phrase, jobsOf}
 use Rattle.format.specs.Reading.{Outcome, ok}
 use Rattle.format.specs.Reading.{refused as unread}
-use Rattle.checker.specs.Checking.{verdict, Written, writtenFor}
+use Rattle.checker.specs.Checking.{verdict, Told, toldFor}
 
 -- the words of a table of its own
 abbrev pub tableWords : ℕ
@@ -18,11 +18,11 @@ abbrev pub places : ℕ
 places = 4294967296
 
 -- The refusal number times `places` plus the place, which is the level of refusal 13 and the job of refusal 14; 0 when accepted.
-abbrev pub numberOf : Written → ℕ
+abbrev pub numberOf : Told → ℕ
 numberOf w = w .number * places + w .place
 
 abbrev pub numberFor : Outcome Phrase → ℕ → ℕ
-numberFor o words = numberOf (writtenFor (verdict o words))
+numberFor o words = numberOf (toldFor (verdict o words))
 
 -- A phrase was read and accepted, and every run of it keeps the finish times that the analysis gives.
 abbrev pub Playable : Outcome Phrase → Verdict → Type 0

@@ -3,7 +3,7 @@ ghost use mathlib.Core.Path.{_≡_};
 ghost use Prim.Native.Nat.{_<_};
 ghost use lib.ListN.{length, drop};
 ghost use Rattle.format.specs.Reading.{reading};
-ghost use Rattle.checker.specs.Checking.{verdict, usedWords, writtenOf};
+ghost use Rattle.checker.specs.Checking.{verdict, usedWords, toldOf};
 ghost use Rattle.report.specs.Report.{textOf, delivered, lengthIn};
 ghost use Rattle.phrase.specs.Host.{tableWords, places, numberOf, numberFor, Playable};
 use checker::Answer;
@@ -20,8 +20,8 @@ const PLACES: u64 = 4294967296;
 const LATE: u64 = 14;
 
 fn number(answer: Answer) -> u64
-    requires { ⌜ writtenOf answer .place < places ⌝ }
-    ensures { λ r. ⌜ r ≡ numberOf (writtenOf answer) ⌝ }
+    requires { ⌜ toldOf answer .place < places ⌝ }
+    ensures { λ r. ⌜ r ≡ numberOf (toldOf answer) ⌝ }
 {
     match answer {
         Answer::Accepted => 0,

@@ -1,8 +1,8 @@
 // The range of finish times that was observed of a job so far, widened by an edge.
 ghost use mathlib.Core.Path.{_≡_};
 ghost use Rattle.ranges.specs.Ranges.{widenedBy};
-use states::larger;
-use states::smaller;
+use words::larger;
+use words::smaller;
 
 // From the earliest to the latest finish time; the latest is 0 where nothing was observed.
 pub struct FinishRange {

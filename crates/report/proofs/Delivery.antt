@@ -9,8 +9,8 @@ use lib.ListN.{length, take}
 use borrow.Author.Tests.{le-leb, lt-leb, leb-true, leb-false}
 use Rattle.words.specs.Placed.{placed}
 use Rattle.words.proofs.Placing.{take-placed}
-use Rattle.text.specs.Written.{Written as WrittenOn}
-use Rattle.checker.specs.Checking.{refusing, Written, writtenOf}
+use Rattle.text.specs.Written.{Written}
+use Rattle.checker.specs.Checking.{refusing, Told, toldOf}
 use Rattle.checker.specs.declared.Answer.the-variants.{Accepted, Refused}
 use Rattle.checker.specs.declared.Checked.{Checked}
 use Rattle.report.specs.Report.{fits, delivered, lengthIn, reportedIn}
@@ -47,16 +47,16 @@ module _ (text buffer : List ℕ) where
   none-only-short h z = none-in-buffer h (fits text buffer) refl z
 
 -- the text at the beginning of a page
-pub written-front : (before text after : List ℕ) (end : ℕ) → WrittenOn before 0 text after end → take end after ≡ text
+pub written-front : (before text after : List ℕ) (end : ℕ) → Written before 0 text after end → take end after ≡ text
 written-front before text after end w = rw (w .ended, w .holds) (take-placed before 0 text (omega arith))
 
 -- ---- the result
 
 module _ (r : Checked) where
-  pub reported-written : (w : Written) (b : Bool) → writtenOf (r .answer) ≡ w
-      → writtenOf (cond b r (refusing (Refused 15 0)) .answer) ≡ cond b w (record { number = 15; place = 0; earliest = 0; latest = 0 })
-  reported-written w true e = e
-  reported-written w false e = refl
+  pub reported-told : (w : Told) (b : Bool) → toldOf (r .answer) ≡ w
+      → toldOf (cond b r (refusing (Refused 15 0)) .answer) ≡ cond b w (record { number = 15; place = 0; earliest = 0; latest = 0 })
+  reported-told w true e = e
+  reported-told w false e = refl
 
   -- a report that accepts has the result of the check
   pub reported-accepted : (s : Checked) (b : Bool) → s ≡ cond b r (refusing (Refused 15 0)) → s .answer ≡ Accepted → s ≡ r

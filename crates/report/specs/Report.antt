@@ -11,7 +11,7 @@ use Rattle.model.specs.Exploration.{Answer as Verdict}
 use Rattle.format.specs.Phrase.{Phrase, note, jobsOf}
 use Rattle.format.specs.Reading.{Outcome, ok}
 use Rattle.format.specs.Reading.{refused as unread}
-use Rattle.checker.specs.Checking.{verdict, refusing, checkedOf, Written, writtenFor}
+use Rattle.checker.specs.Checking.{verdict, refusing, checkedOf, Told, toldFor}
 use Rattle.checker.specs.declared.Answer.the-variants.{Refused}
 use Rattle.checker.specs.declared.Checked.{Checked}
 use Rattle.report.specs.Lines.{strokeLine, lines, acceptedLine, refusedLine, lateLine}
@@ -76,6 +76,6 @@ abbrev pub reportedOf : Outcome Phrase → ℕ → List ℕ → Reported
 reportedOf o words buffer = reportedIn (checkedOf o words) (textOf o words) buffer
 
 -- what document 01 writes of it
-abbrev pub writtenIn : Outcome Phrase → ℕ → List ℕ → Written
-writtenIn o words buffer =
-    cond (fits (textOf o words) buffer) (writtenFor (verdict o words)) (record { number = 15; place = 0; earliest = 0; latest = 0 })
+abbrev pub toldIn : Outcome Phrase → ℕ → List ℕ → Told
+toldIn o words buffer =
+    cond (fits (textOf o words) buffer) (toldFor (verdict o words)) (record { number = 15; place = 0; earliest = 0; latest = 0 })

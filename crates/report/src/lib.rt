@@ -11,8 +11,8 @@ ghost use Rattle.model.specs.Guarantee.{Admissible, Kept};
 ghost use Rattle.format.specs.Phrase.{Phrase, jobsOf};
 ghost use Rattle.format.specs.Reading.{reading, ok};
 ghost use Rattle.text.specs.Written.{Written};
-ghost use Rattle.checker.specs.Checking.{usedWords, writtenOf, boundsOf};
-ghost use Rattle.report.specs.Report.{textOf, delivered, reportedIn, reportedOf, writtenIn};
+ghost use Rattle.checker.specs.Checking.{usedWords, toldOf, boundsOf};
+ghost use Rattle.report.specs.Report.{textOf, delivered, reportedIn, reportedOf, toldIn};
 ghost use Rattle.report.specs.Room.{pageRoom};
 ghost use Rattle.report.specs.Rows.{Keyed, textIn};
 use crate::lines::LAST;
@@ -73,8 +73,8 @@ fn deliver(text: &mut [u8], page: &[u8], end: usize, checked: Checked) -> Report
 // Reports on a phrase file over a lent table, into a lent buffer.
 pub fn report(file: &[u8], table: &mut [u32], text: &mut [u8]) -> Reported
     ensures result { λ r. ⌜ r ≡ reportedOf (reading (now (file .entry))) (length (now (table .entry))) (now (text .entry)) ⌝ }
-    ensures number { λ r. ⌜ writtenOf (r .checked .answer)
-        ≡ writtenIn (reading (now (file .entry))) (length (now (table .entry))) (now (text .entry)) ⌝ }
+    ensures number { λ r. ⌜ toldOf (r .checked .answer)
+        ≡ toldIn (reading (now (file .entry))) (length (now (table .entry))) (now (text .entry)) ⌝ }
     ensures text { λ _. ⌜ now (text .exit)
         ≡ delivered (textOf (reading (now (file .entry))) (length (now (table .entry)))) (now (text .entry)) ⌝ }
     ensures table { λ _. ⌜ drop (usedWords (reading (now (file .entry))) (length (now (table .entry)))) (now (table .exit))

@@ -23,10 +23,6 @@ use Rattle.states.proofs.Reading.{finish-length, finish-at, started-at, set-mas
 use Rattle.slots.specs.Writing.{withStart}
 use Rattle.slots.proofs.Frames.{same-state, same-range, put-set, put-finish}
 
--- a one shifted by less than the width
-pub shifted-one : (w i : ℕ) → i < w → (1 * 2 ^ i) % 2 ^ w ≡ 2 ^ i
-shifted-one w i h = shl-exact {a = 1} 1 i w (omega arith) (omega arith) ∙ one-mul (2 ^ i)
-
 -- ---- the set with a job more
 
 module _ (m k : ℕ) (d : List ℕ) (i : ℕ) (h : i < k) (fits : setOf d < 2 ^ k) (waits : started (stateOf m k d) i ≡ false) where

@@ -14,9 +14,9 @@ ghost use Rattle.states.specs.Slots.{setOf, stateOf};
 ghost use Rattle.slots.specs.Writing.{withStart, Widened};
 use states::SET_WORDS;
 use states::WORD;
-use states::larger;
-use states::smaller;
 use states::started_set;
+use words::larger;
+use words::smaller;
 
 // Inserts x into the words after the first, which makes room.
 fn insert_over_first(l: &mut [u32], x: u32)

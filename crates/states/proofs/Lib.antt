@@ -1,2 +1,3 @@
 -- Laws of the words of a state.
+pub mod Bits
 pub mod Reading

@@ -4,16 +4,14 @@ use mathlib.Core.Path.{_≡_, refl, sym, ap, _∙_}
 use mathlib.Core.Bool.{Bool, true, false, cond}
 use mathlib.Core.List.{List, [], _∷_}
 use native.Mathlib.Nat.{zero-add, pow-suc, div-one}
-use native.Mathlib.Numerals.{one-add}
 use native.Mathlib.Omega.{arith}
 use lib.Count.{ones}
-use lib.Dec.{eqb}
 use lib.ListN.{getD, length}
-use lib.Pow.{shr-shr}
 use Rattle.model.specs.Folds.{ind}
 use Rattle.model.specs.States.{Range, empty, range, isRange, finishOf, started, level}
-use Rattle.model.proofs.StartedSet.{maskOf, mask-ones}
+use Rattle.model.proofs.StartedSet.{maskOf, half-power, mask-ones}
 use Rattle.words.proofs.Tabulate.{length-tabulate, getD-tabulate}
+use Rattle.states.proofs.Bits.{digit}
 use Rattle.states.specs.Slots.{earliestAt, latestAt, setOf, inSet, rangeAt, stateOf}
 
 -- ---- a job
@@ -43,9 +41,6 @@ module _ (m k : ℕ) (ws : List ℕ) where
 
 -- ---- the set
 
-half-power : (x i : ℕ) → x / 2 ^ suc i ≡ x / 2 / 2 ^ i
-half-power x i = ap (λ (n : ℕ). x / 2 ^ n) (sym (one-add i)) ∙ sym (shr-shr x 1 i)
-
 -- a number is the mask of the ranges that its bits tell
 mask-is : (l : List Range) (x : ℕ) → x < 2 ^ length l → ((i : ℕ) → i < length l → ind (isRange (getD l i empty)) ≡ x / 2 ^ i % 2) → maskOf l ≡ x
 unfolding maskOf
@@ -58,16 +53,11 @@ mask-is (r ∷ rs) x h b =
       mask-is rs (x / 2) (omega (arith, pow-suc 2 (length rs))) (λ i g. b (suc i) (omega arith) ∙ ap (λ (n : ℕ). n % 2) (half-power x i)),
     )
 
-bit-ind : (b : ℕ) → b < 2 → ind (eqb b 1) ≡ b
-bit-ind zero h = refl
-bit-ind (suc zero) h = refl
-bit-ind (suc (suc b)) h = absurd (omega arith)
-
 -- the set, as a mask of the finish ranges
 pub set-mask : (m k : ℕ) (ws : List ℕ) → setOf ws < 2 ^ k → maskOf (stateOf m k ws .finish) ≡ setOf ws
 set-mask m k ws h =
     mask-is (stateOf m k ws .finish) (setOf ws) (rw (finish-length m k ws) h)
-    (λ i b. ap ind (started-at m k ws i (rw (finish-length m k ws) at b)) ∙ bit-ind (setOf ws / 2 ^ i % 2) (omega arith))
+    (λ i b. ap ind (started-at m k ws i (rw (finish-length m k ws) at b)) ∙ sym (digit (setOf ws / 2 ^ i % 2) (omega arith)))
 
 pub set-ones : (m k : ℕ) (ws : List ℕ) → setOf ws < 2 ^ k → ones (setOf ws) ≡ level (stateOf m k ws)
 set-ones m k ws h = ap ones (sym (set-mask m k ws h)) ∙ mask-ones (stateOf m k ws .finish)

@@ -1,6 +1,6 @@
 // States, read from their words.
 ghost use mathlib.Core.Path.{_≡_};
-ghost use Prim.Native.Nat.{_^_, _≤_, _<_, min, max};
+ghost use Prim.Native.Nat.{_^_, _≤_, _<_};
 ghost use lib.ListN.{length};
 ghost use Rattle.model.specs.Limits.{mostJobs, mostCores};
 ghost use Rattle.model.specs.States.{earliest, latest, finishOf, started, level};
@@ -19,24 +19,6 @@ pub fn state_words(m: usize, k: usize) -> usize
     ensures { λ r. ⌜ r ≡ stateWords m k ⌝ }
 {
     SET_WORDS + 2 * m + 2 * k
-}
-
-pub fn larger(a: u32, b: u32) -> u32
-    ensures { λ r. ⌜ r ≡ max a b ⌝ }
-{
-    if a < b {
-        return b;
-    }
-    a
-}
-
-pub fn smaller(a: u32, b: u32) -> u32
-    ensures { λ r. ⌜ r ≡ min a b ⌝ }
-{
-    if b < a {
-        return b;
-    }
-    a
 }
 
 // The set of started jobs.

@@ -1,5 +1,6 @@
-// Words: copies of them, zeros, and what lent parts leave.
+// Words: copies of them, zeros, the larger and the smaller of two, and what lent parts leave.
 ghost use mathlib.Core.Path.{_≡_};
+ghost use Prim.Native.Nat.{min, max};
 ghost use lib.ListN.{length, replicate};
 
 // Copies `src` into `dst`.
@@ -23,4 +24,22 @@ pub fn clear(dst: &mut [u32])
         dst[i] = 0;
         i += 1;
     }
+}
+
+pub fn larger(a: u32, b: u32) -> u32
+    ensures { λ r. ⌜ r ≡ max a b ⌝ }
+{
+    if a < b {
+        return b;
+    }
+    a
+}
+
+pub fn smaller(a: u32, b: u32) -> u32
+    ensures { λ r. ⌜ r ≡ min a b ⌝ }
+{
+    if b < a {
+        return b;
+    }
+    a
 }

@@ -1,7 +1,7 @@
 -- `edges::is_candidate` meets its contract. Assumes nothing.
 use native.Mathlib.Omega.{arith}
 use borrow.Author.Needs.{needs}
-use Rattle.edges.proofs.Bits.{shifted-one}
+use Rattle.states.proofs.Bits.{shifted-one}
 use Rattle.edges.proofs.Candidates.{candidate-test}
 use Rattle.edges.proofs.is_candidate.Statement.{statement}
 use Rattle.edges.proofs.is_candidate.Tie as tie

@@ -6,11 +6,11 @@ use denote.Ref.{now}
 use borrow.Author.Needs.{needs}
 use Rattle.format.specs.Reading.{reading}
 use Rattle.format.specs.Valid.{AreBytes}
-use Rattle.checker.specs.Checking.{verdict, writtenOf, writtenFor}
+use Rattle.checker.specs.Checking.{verdict, toldOf, toldFor}
 use Rattle.checker.proofs.Promise.{runs-kept, as-written}
 use Rattle.report.specs.Report.{fits, textOf, delivered, reportedIn}
 use Rattle.report.specs.declared.Reported.{Reported}
-use Rattle.report.proofs.Delivery.{written-front, reported-written, reported-accepted}
+use Rattle.report.proofs.Delivery.{written-front, reported-told, reported-accepted}
 use Rattle.report.proofs.Texts.{Composed, composed}
 use Rattle.report.proofs.report.Statement.{statement}
 use Rattle.report.proofs.report.Tie as tie
@@ -57,7 +57,7 @@ returns c =
     let done = c .before .before .deliver .ensures in
     let result = done .0 ∙ (λ n. reportedIn (checked .0 n) (front n) buffer) in
     let answer = ap (λ (r : Reported). r .checked) (done .0 ∙ (λ n. reportedIn (d .check-rows .result) (front n) buffer)) in
-    let number = ap (λ r. writtenOf (r .answer)) answer ∙ reported-written (d .check-rows .result) (writtenFor (verdict (reading file) words)) (fits text buffer) (as-written (reading file) words _ (checked .0)) in
+    let number = ap (λ r. toldOf (r .answer)) answer ∙ reported-told (d .check-rows .result) (toldFor (verdict (reading file) words)) (fits text buffer) (as-written (reading file) words _ (checked .0)) in
     (result, (number, (done .1 ∙ ap (λ t. delivered t buffer) front, (checked .1 .1, λ x e a. runs-kept file (bytes known) words _ (reported-accepted (d .check-rows .result) _ (fits text buffer) answer a ∙ checked .0) x e a))))
 
 pub report-spec : {M : Type 1} → statement M

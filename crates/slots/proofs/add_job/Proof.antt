@@ -6,7 +6,8 @@ use lib.ListN.{length-set}
 use lib.Pow.{pow-mono}
 use denote.Ref.{now}
 use Rattle.states.specs.Slots.{setOf}
-use Rattle.slots.proofs.Starts.{shifted-one, joined-fits, added-set, added-state}
+use Rattle.states.proofs.Bits.{shifted-one}
+use Rattle.slots.proofs.Starts.{joined-fits, added-set, added-state}
 use borrow.Author.Needs.{needs}
 use Rattle.slots.proofs.add_job.Statement.{statement}
 use Rattle.slots.proofs.add_job.Tie as tie

@@ -3,17 +3,17 @@ use Prim.Native.Nat.{ℕ, zero, suc, _+_, _*_, _/_, _%_, _^_, _≤_, _<_, min, m
 use mathlib.Core.Path.{_≡_, refl, sym, ap, ap₂, _∙_}
 use mathlib.Core.Bool.{Bool, true, false, _&&_, _||_}
 use native.Mathlib.Nat.{zero-div, one-mul}
-use native.Mathlib.Numerals.{one-add}
 use native.Mathlib.Omega.{arith}
 use lib.Arith.{half-le}
 use lib.Bits.{bitAnd, bitOr, and-shr, and-step, or-shr, or-step}
 use lib.Dec.{eqb, eqb·zero-suc, eqb·suc-zero, eqb·suc-suc}
-use lib.Pow.{shl-exact, shr-shr}
+use lib.Pow.{shl-exact}
 use Rattle.model.specs.Folds.{ind}
 use Rattle.model.proofs.Booleans.{ind-le}
+use Rattle.model.proofs.StartedSet.{half-power}
 use Rattle.states.specs.Slots.{inSet}
 
-digit : (d : ℕ) → d < 2 → d ≡ ind (eqb d 1)
+pub digit : (d : ℕ) → d < 2 → d ≡ ind (eqb d 1)
 digit zero h = refl
 digit (suc zero) h = refl
 digit (suc (suc d)) h = absurd (omega arith)
@@ -54,7 +54,7 @@ in-union = in-op bitOr max _||_ go or-shr or-step
 
 -- all but the lowest digit
 in-half : (x w : ℕ) → inSet x (suc w) ≡ inSet (x / 2) w
-in-half x w = ap (inSet x) (sym (one-add w)) ∙ ap (λ (n : ℕ). eqb (n % 2) 1) (sym (shr-shr x 1 w))
+in-half x w = ap (λ (n : ℕ). eqb (n % 2) 1) (half-power x w)
 
 pub in-none : (w : ℕ) → inSet 0 w ≡ false
 in-none w = ap (λ (x : ℕ). eqb (x % 2) 1) (zero-div (2 ^ w))
