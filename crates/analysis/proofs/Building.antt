@@ -180,6 +180,9 @@ module _ {rows : List ℕ} {k m cap from to n : ℕ} {table₀ seen₀ table see
         sized : table′ ≡ putMid to size table half
         sized = ap (λ (z : ℕ). putMid to z table half) spans
 
+        pub table-long : length table′ ≡ length table₀
+        table-long = ap length sized ∙ length-put to size table half fits half-long ∙ before .long
+
         put : part to size table′ ≡ half
         put = ap (part to size) sized ∙ part-same to size table half fits half-long
 
@@ -203,7 +206,7 @@ module _ {rows : List ℕ} {k m cap from to n : ℕ} {table₀ seen₀ table see
               halves = before .halves;
               given = before .given;
               upto = omega arith;
-              long = ap length sized ∙ length-put to size table half fits half-long ∙ before .long;
+              long = table-long;
               target = subst (λ (z : List ℕ). Target js m k cap z heads′ count) (sym put) (subst (λ (z : Step). HalfAt js m k cap z half heads′) e (leaves .sound));
               frame = framed;
               observed = leaves .observed;

@@ -6,7 +6,7 @@ use lib.ListN.{length}
 use denote.Ref.{now}
 use borrow.Author.Needs.{needs}
 use Rattle.words.proofs.Parts.{part-length}
-use Rattle.analysis.proofs.Building.{Building, building-starts, building-ends, read-inside, target-half, loaded-sound, building-goes-on, building-full, building-late}
+use Rattle.analysis.proofs.Building.{Building, building-starts, building-ends, read-inside, target-half, loaded-sound, table-long, building-goes-on, building-full, building-late}
 use Rattle.analysis.proofs.levels.build_level.Statement.{statement}
 use Rattle.analysis.proofs.levels.build_level.Tie as tie
 
@@ -118,7 +118,7 @@ enum-known-l : tie.Need-enum-known-l Inv-loop μ-loop
 enum-known-l c = search needs
 
 same-length : tie.Need-same-length Inv-loop μ-loop
-same-length c = search needs
+same-length c = table-long (c .before .before .before .before .before .before .before .before .before .before .before .before .before .before .before .before .before .before .before .before .loop .inv) (c .before .before .before .before .before .before .before .before .before .before .before .before .before .before .before .before .before .before .before .before .before .state-words .ensures) (c .before .before .before .before .before .before .before .before .before .before .before .before .before .before .before .before .before .before .before .loop-test .taken) (c .before .before .before .before .before .before .before .before .before .before .before .before .before .before .before .load-state .last .0) (c .before .before .before .before .before .before .before .before .before .before .before .before .before .before .before .load-state .ensures .0) (c .before .before .before .before .before .before .before .before .before .try-state .kept .0) (c .before .before .before .before .before .before .before .before .before .try-state .ensures)
 
 same-length-2 : tie.Need-same-length-2 Inv-loop μ-loop
 same-length-2 c = kept (c .before .before .before .before .before .before .before .before .before) .0
@@ -140,7 +140,7 @@ enum-known-i : tie.Need-enum-known-i Inv-loop μ-loop
 enum-known-i c = search needs
 
 same-length-4 : tie.Need-same-length-4 Inv-loop μ-loop
-same-length-4 c = search needs
+same-length-4 c = table-long (c .before .before .before .before .before .before .before .before .before .before .before .before .before .before .before .before .before .before .before .before .loop .inv) (c .before .before .before .before .before .before .before .before .before .before .before .before .before .before .before .before .before .before .before .before .before .state-words .ensures) (c .before .before .before .before .before .before .before .before .before .before .before .before .before .before .before .before .before .before .before .loop-test .taken) (c .before .before .before .before .before .before .before .before .before .before .before .before .before .before .before .load-state .last .0) (c .before .before .before .before .before .before .before .before .before .before .before .before .before .before .before .load-state .ensures .0) (c .before .before .before .before .before .before .before .before .before .try-state .kept .0) (c .before .before .before .before .before .before .before .before .before .try-state .ensures)
 
 same-length-5 : tie.Need-same-length-5 Inv-loop μ-loop
 same-length-5 c = kept (c .before .before .before .before .before .before .before .before .before) .0
@@ -159,10 +159,10 @@ returns-2 c =
     building-late (i .inv) (s .ensures) t (l .last .0) (l .ensures .0) (y .kept .0) (y .ensures) v
 
 add-j : tie.Need-add-j Inv-loop μ-loop
-add-j c = search needs
+add-j c = omega (arith, c .before .before .before .before .before .before .before .before .before .before .before .before .before .before .before .before .before .before .before .loop-test .taken, c .before .before .before .before .before .before .before .before .before .before .before .before .before .before .before .before .before .before .before .before .before .before .before .before .before .before .before .good)
 
 loop-less : tie.Need-loop-less Inv-loop μ-loop
-loop-less c = search needs
+loop-less c = omega (arith, c .before .before .before .before .before .before .before .before .before .before .before .before .before .before .before .before .before .before .before .loop-test .taken)
 
 loop-again : tie.Need-loop-again Inv-loop μ-loop
 loop-again c =
@@ -175,13 +175,13 @@ loop-again c =
     building-goes-on (i .inv) (s .ensures) t (l .last .0) (l .ensures .0) (y .kept .0) (y .ensures) v
 
 same-length-7 : tie.Need-same-length-7 Inv-loop μ-loop
-same-length-7 c = search needs
+same-length-7 c = c .before .loop .inv .long
 
 same-length-8 : tie.Need-same-length-8 Inv-loop μ-loop
-same-length-8 c = search needs
+same-length-8 c = c .before .loop .inv .observed .long ∙ sym (c .before .before .before .before .before .before .before .before .pre .1 .2 .long)
 
 same-length-9 : tie.Need-same-length-9 Inv-loop μ-loop
-same-length-9 c = search needs
+same-length-9 c = c .before .loop .inv .target .1 .long ∙ sym (c .before .before .before .before .before .before .before .before .pre .1 .3)
 
 returns-3 : tie.Need-returns-3 Inv-loop μ-loop
 returns-3 c =
