@@ -8,6 +8,7 @@ ghost use Rattle.model.specs.Limits.{mostCores, mostJobs, latestTime};
 ghost use Rattle.model.specs.Jobs.{Job};
 ghost use Rattle.model.specs.States.{Range, started};
 ghost use Rattle.model.specs.Exploration.{stateWords, limited, stored};
+ghost use Rattle.model.proofs.Sorted.{Ordered};
 ghost use Rattle.model.proofs.Bounds.{Bounded};
 ghost use Rattle.states.specs.Slots.{setOf, stateOf, statesOf};
 ghost use Rattle.slots.specs.Writing.{withStart};
@@ -45,7 +46,7 @@ pub fn write_successor(
     f: u32,
 )
     requires { ⌜ (i < k) × (k ≤ mostJobs) × (1 ≤ m) × (m ≤ mostCores) × (stateWords m k ≤ length (now cur)) × (stateWords m k ≤ length (now new))
-        × (setOf (now cur) < 2 ^ k) × (started (stateOf m k (now cur)) i ≡ false) ⌝ }
+        × (setOf (now cur) < 2 ^ k) × (started (stateOf m k (now cur)) i ≡ false) × Ordered (stateOf m k (now cur)) ⌝ }
     ensures { λ _. ⌜ (stateOf m k (now (new .exit)) ≡ withStart (stateOf m k (now (cur .entry))) i s e f)
         × (setOf (now (new .exit)) ≡ setOf (now (cur .entry)) + 2 ^ i) ⌝ }
 {
@@ -68,7 +69,7 @@ pub fn store_successor(
     f: u32,
 ) -> Step
     requires { ⌜ (i < k) × (k ≤ mostJobs) × (1 ≤ m) × (m ≤ mostCores) × (stateWords m k ≤ length (now cur)) × (setOf (now cur) < 2 ^ k)
-        × (started (stateOf m k (now cur)) i ≡ false) ⌝ }
+        × (started (stateOf m k (now cur)) i ≡ false) × Ordered (stateOf m k (now cur)) ⌝ }
     requires { ⌜ (cap * stateWords m k ≤ length (now half)) × (n ≤ cap) × SetsFit m k (now half) n × Indexed m k (now half) n (now heads) ⌝ }
     ensures { λ r. ⌜ ((seen : List Range) (c : ℕ) → progressOf m k seen c r (now (half .exit))
         ≡ limited cap (withStart (stateOf m k (now (cur .entry))) i s e f)

@@ -1,5 +1,5 @@
 -- Bounds on every number that the analysis stores or makes, for sums and casts of code: stored times are at most the latest deadline and release,
--- finish times of an edge at most an execution more. Assumes nothing.
+-- finish times of an edge at most an execution more. Stored availabilities are sorted. Assumes nothing.
 use Prim.Native.Nat.{ℕ, zero, suc, _≤_, _<_, min, max}
 use mathlib.Core.Path.{_≡_, _∙_}
 use mathlib.Core.Bool.{Bool, true, false, _&&_, cond}
@@ -16,6 +16,7 @@ use Rattle.model.specs.Exploration.{hull, merge, explored}
 use Rattle.model.proofs.Booleans.{and-left, and-right}
 use Rattle.model.proofs.Folds.{largest-le, LimitUpTo, smallest-le, set-each, getD-same}
 use Rattle.model.proofs.Availability.{zip-length}
+use Rattle.model.proofs.Sorted.{Ordered, zip-sorted, availability-sorted, zeros-sorted}
 use Rattle.model.proofs.Induction.{WhileGoing, Edge, finishRange, LevelHas, level-has}
 
 -- the job's ranges are not empty, and its releases and deadline are at most d
@@ -104,6 +105,7 @@ pub record Bounded (js : List Job) (d : ℕ) (σ : State) : Type 0 where
   pub finishes : (k : ℕ) → Between (job js k .earliestRelease) d (finishOf σ k)
   pub possibly : UpTo d (σ .possiblyFree)
   pub certainly : UpTo d (σ .certainlyFree)
+  pub ordered : Ordered σ
 
 module _ (js : List Job) (d : ℕ) (timed : TimedUpTo d js) (σ : State) (g : Bounded js d σ) where
   latest-up-to : (p : ℕ → Bool) (l : List ℕ) → largest p (λ w. latest (finishOf σ w)) l ≤ d
@@ -164,6 +166,10 @@ merge-bounded js d τ σ g h =
       finishes = between-zip d (λ k. job js k .earliestRelease) (τ .finish) (σ .finish) (g .finishes) (h .finishes);
       possibly = zip-up-to min d (λ x y p q. omega arith) (τ .possiblyFree) (σ .possiblyFree) (g .possibly) (h .possibly);
       certainly = zip-up-to max d (λ x y p q. omega arith) (τ .certainlyFree) (σ .certainlyFree) (g .certainly) (h .certainly);
+      ordered = (
+        zip-sorted min (λ a b x y p q. omega arith) (τ .possiblyFree) (σ .possiblyFree) (g .ordered .0) (h .ordered .0),
+        zip-sorted max (λ a b x y p q. omega arith) (τ .certainlyFree) (σ .certainlyFree) (g .ordered .1) (h .ordered .1),
+      );
     }
 
 module _ (js : List Job) (d : ℕ) (timed : TimedUpTo d js) where
@@ -179,6 +185,10 @@ module _ (js : List Job) (d : ℕ) (timed : TimedUpTo d js) where
         finishes = set-each (λ k r. Between (job js k .earliestRelease) d r) (σ .finish) i (finishRange js σ i) empty (omega (arith, e .inside, g .jobs)) (g .finishes) (edge-between σ i e);
         possibly = availability-up-to d (earliestStart js σ i) (earliestFinish js σ i) (σ .possiblyFree) start (omega (arith, edge-between σ i e)) (g .possibly);
         certainly = availability-up-to d (earliestStart js σ i) (latestFinish js σ i) (σ .certainlyFree) start (edge-between σ i e .2) (g .certainly);
+        ordered = (
+          availability-sorted (earliestStart js σ i) (earliestFinish js σ i) (σ .possiblyFree),
+          availability-sorted (earliestStart js σ i) (latestFinish js σ i) (σ .certainlyFree),
+        );
       }
     where
       start : earliestStart js σ i ≤ d
@@ -194,6 +204,7 @@ module _ (js : List Job) (d : ℕ) (timed : TimedUpTo d js) where
         finishes = λ k. rw (getD-same (length js) k empty) tt;
         possibly = zeros-up-to m;
         certainly = zeros-up-to m;
+        ordered = (zeros-sorted m, zeros-sorted m);
       }
 
   -- every state of a level is bounded, and the range observed of a job lies between its earliest release and d

@@ -13,5 +13,6 @@ pub mod Invariant
 pub mod Predecessors
 pub mod Soundness
 pub mod Example
+pub mod Sorted
 pub mod Bounds
 pub mod StartedSet

@@ -1,20 +1,19 @@
 -- The words that the start of a job leaves. Assumes nothing.
-use Prim.Native.Nat.{ℕ, _+_, _*_, _/_, _%_, _^_, _≤_, _<_}
-use mathlib.Core.Path.{_≡_, refl, sym, ap, _∙_}
+use Prim.Native.Nat.{ℕ, _+_, _/_, _%_, _^_, _≤_, _<_}
+use mathlib.Core.Path.{_≡_, refl, sym, ap, _∙_, subst}
 use mathlib.Core.Bool.{Bool, true, false}
 use mathlib.Core.List.{List}
-use native.Mathlib.Nat.{one-mul}
 use native.Mathlib.Decide.{ℕ-discrete}
 use native.Mathlib.Omega.{arith}
 use lib.Dec.{eqb}
 use lib.ListN.{length, getD, set, length-set}
-use lib.Pow.{shl-exact}
 use lib.Seq.{getD-set-same, getD-set-other}
 use borrow.Rule.Slice.PartMut.{putMid}
 use Rattle.model.specs.Folds.{ind}
 use Rattle.model.specs.States.{Range, empty, range, isRange, State, started}
 use Rattle.model.specs.Edges.{availability}
 use Rattle.model.specs.Exploration.{stateWords}
+use Rattle.model.proofs.Sorted.{Sorted, Ordered}
 use Rattle.model.proofs.StartedSet.{maskOf, mask-bit, mask-set, mask-fits}
 use Rattle.words.proofs.Tabulate.{tabulate-is}
 use Rattle.words.proofs.Parts.{part, part-same, part-before, part-after, part-set-before, part-set-after, length-put}
@@ -117,6 +116,16 @@ module _ (m k : ℕ) (d : List ℕ) (i : ℕ) (h : i < k) (fits : setOf d < 2 ^ 
 
 -- ---- both availabilities put back, once the job is added
 
+-- sorted as they are in the state
+pub parts-sorted : (m k : ℕ) (ws : List ℕ) (σ : State) (finish : List Range) → stateOf m k ws ≡ record { finish = finish; possiblyFree = σ .possiblyFree; certainlyFree = σ .certainlyFree } → Ordered σ
+    → Sorted (part possiblyAt m ws) × Sorted (part (certainlyAt m) m ws)
+unfolding stateOf
+parts-sorted m k ws σ finish e o = (subst Sorted (sym (ap (λ (τ : State). τ .possiblyFree) e)) (o .0), subst Sorted (sym (ap (λ (τ : State). τ .certainlyFree) e)) (o .1))
+
+-- the upper ones are not touched by the lower ones
+pub upper-kept : (m k : ℕ) (ws ys : List ℕ) → stateWords m k ≤ length ws → length ys ≡ m → part (certainlyAt m) m (putMid possiblyAt m ws ys) ≡ part (certainlyAt m) m ws
+upper-kept m k ws ys long ly = part-after possiblyAt m ws ys (omega arith) ly (certainlyAt m) m (omega arith)
+
 module _ (m k : ℕ) (ws ys zs : List ℕ) (long : stateWords m k ≤ length ws) (ly : length ys ≡ m) (lz : length zs ≡ m) where
   abbrev lower : List ℕ
   lower = putMid possiblyAt m ws ys
@@ -143,5 +152,4 @@ module _ (m k : ℕ) (ws ys zs : List ℕ) (long : stateWords m k ≤ length ws)
       → ys ≡ availability s e (part possiblyAt m ws) → zs ≡ availability s f (part (certainlyAt m) m lower) → stateOf m k upper ≡ withStart σ i s e f
   unfolding stateOf
   started-state σ i s e f p q r =
-      let u : part (certainlyAt m) m lower ≡ part (certainlyAt m) m ws = part-after possiblyAt m ws ys (omega arith) ly (certainlyAt m) m (omega arith) in
-      updated-state ∙ same-state (ap (λ (τ : State). τ .finish) p) (q ∙ ap (λ (τ : State). availability s e (τ .possiblyFree)) p) (r ∙ ap (availability s f) u ∙ ap (λ (τ : State). availability s f (τ .certainlyFree)) p)
+      updated-state ∙ same-state (ap (λ (τ : State). τ .finish) p) (q ∙ ap (λ (τ : State). availability s e (τ .possiblyFree)) p) (r ∙ ap (availability s f) (upper-kept m k ws ys long ly) ∙ ap (λ (τ : State). availability s f (τ .certainlyFree)) p)

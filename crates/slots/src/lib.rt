@@ -1,15 +1,16 @@
 // States made and merged in their words.
 ghost use mathlib.Core.Path.{_≡_};
 ghost use mathlib.Core.Bool.{false};
-ghost use mathlib.Core.List.{tail, zipWith};
+ghost use mathlib.Core.List.{zipWith};
 ghost use Prim.Native.Nat.{_+_, _*_, _^_, _≤_, _<_, min, max};
 ghost use lib.Dec.{leb};
 ghost use lib.ListN.{length, set};
 ghost use Rattle.model.specs.Limits.{mostJobs};
 ghost use Rattle.model.specs.Folds.{everyTwo};
 ghost use Rattle.model.specs.States.{range, started};
-ghost use Rattle.model.specs.Edges.{insert, availability};
+ghost use Rattle.model.specs.Edges.{availability};
 ghost use Rattle.model.specs.Exploration.{mergeable, merge, stateWords};
+ghost use Rattle.model.proofs.Sorted.{Sorted, Ordered};
 ghost use Rattle.states.specs.Slots.{setOf, stateOf};
 ghost use Rattle.slots.specs.Writing.{withStart, Widened};
 use states::SET_WORDS;
@@ -18,36 +19,20 @@ use states::started_set;
 use words::larger;
 use words::smaller;
 
-// Inserts x into the words after the first, which makes room.
-fn insert_over_first(l: &mut [u32], x: u32)
-    requires { ⌜ 1 ≤ length (now l) ⌝ }
-    ensures { λ _. ⌜ now (l .exit) ≡ insert x (tail (now (l .entry))) ⌝ }
-{
-    let mut j = 0;
-    while j + 1 < l.len() {
-        let y = l[j + 1];
-        if x <= y {
-            l[j] = x;
-            return;
-        }
-        l[j] = y;
-        j += 1;
-    }
-    l[j] = x;
-}
-
-// The availabilities once a job has started at s at the earliest and finishes at f: an insertion sort from the right, in place.
+// The sorted availabilities once a job has started at s at the earliest and finishes at f: f takes the place of the first, and is carried to its own.
 fn update_availability(l: &mut [u32], s: u32, f: u32)
-    requires { ⌜ 1 ≤ length (now l) ⌝ }
+    requires { ⌜ (1 ≤ length (now l)) × Sorted (now l) ⌝ }
     ensures { λ _. ⌜ now (l .exit) ≡ availability s f (now (l .entry)) ⌝ }
 {
-    let mut i = l.len();
-    while 1 < i {
-        i -= 1;
-        let x = larger(s, l[i]);
-        insert_over_first(&mut l[i..], x);
+    let mut carried = f;
+    let mut j = 0;
+    while j + 1 < l.len() {
+        let x = larger(s, l[j + 1]);
+        l[j] = smaller(carried, x);
+        carried = larger(carried, x);
+        j += 1;
     }
-    insert_over_first(l, f);
+    l[j] = carried;
 }
 
 // Adds job i, which has not started, with its finish range.
@@ -68,7 +53,7 @@ fn add_job(out: &mut [u32], m: usize, k: usize, i: usize, e: u32, f: u32)
 // Makes the successor of a state in its words: job i starts at s at the earliest and finishes from e to f.
 pub fn start_job(out: &mut [u32], m: usize, k: usize, i: usize, s: u32, e: u32, f: u32)
     requires { ⌜ (i < k) × (k ≤ mostJobs) × (1 ≤ m) × (stateWords m k ≤ length (now out)) × (setOf (now out) < 2 ^ k)
-        × (started (stateOf m k (now out)) i ≡ false) ⌝ }
+        × (started (stateOf m k (now out)) i ≡ false) × Ordered (stateOf m k (now out)) ⌝ }
     ensures { λ _. ⌜ stateOf m k (now (out .exit)) ≡ withStart (stateOf m k (now (out .entry))) i s e f ⌝ }
     ensures { λ _. ⌜ setOf (now (out .exit)) ≡ setOf (now (out .entry)) + 2 ^ i ⌝ }
 {

@@ -1,30 +1,29 @@
--- `slots::update_availability` meets its contract: the words from i on are raised and sorted. Assumes nothing.
-use Prim.Native.Nat.{suc, _-_, _≤_, max}
-use mathlib.Core.Path.{_≡_, refl, _∙_}
-use mathlib.Core.List.{map}
+-- `slots::update_availability` meets its contract: the words before j are done, and one is carried. Assumes nothing.
+use Prim.Native.Nat.{_+_, _-_, _<_, max}
+use mathlib.Core.Path.{_≡_, refl, sym, _∙_}
+use mathlib.Core.List.{_++_, map}
 use native.Mathlib.Omega.{arith}
-use lib.ListN.{length, take, drop}
-use lib.Seq.{drop-length}
+use lib.ListN.{length, take, drop, length-set}
 use denote.Ref.{now}
-use borrow.Rule.Slice.PartMut.{take-put, same-len-mid}
-use Rattle.model.specs.Edges.{sort}
-use Rattle.slots.proofs.Sorting.{put-tail, take-less, sort-on, sort-last}
 use borrow.Author.Needs.{needs}
+use Rattle.slots.proofs.Sorting.{carried, carried-availability, carried-on, carried-last}
 use Rattle.slots.proofs.update_availability.Statement.{statement}
 use Rattle.slots.proofs.update_availability.Tie as tie
 
 abbrev Inv-loop : tie.InvT-loop
-Inv-loop l₀ s f i₀ l i = (1 ≤ i) × (i ≤ length l) × (length l ≡ length l₀) × (take i l ≡ take i l₀) × (drop i l ≡ sort (map (max s) (drop i l₀)))
+Inv-loop l₀ s f x₀ j₀ l x j = (j < length l) × (length l ≡ length l₀) × (carried f (map (max s) (drop 1 l₀)) ≡ take j l ++ carried x (map (max s) (drop (j + 1) l)))
 
 abbrev μ-loop : tie.MeasureT-loop
-μ-loop l₀ s f i₀ l i = i
+μ-loop l₀ s f x₀ j₀ l x j = length l₀ - j
 
 loop-holds : tie.Need-loop-holds Inv-loop μ-loop
-unfolding sort
-loop-holds c = (omega arith, omega arith, refl, refl, rw drop-length)
+loop-holds c = (omega arith, refl, refl)
 
-sub-i : tie.Need-sub-i Inv-loop μ-loop
-sub-i c = search needs
+add-loop : tie.Need-add-loop Inv-loop μ-loop
+add-loop c = search needs
+
+add-larger : tie.Need-add-larger Inv-loop μ-loop
+add-larger c = search needs
 
 mul-larger : tie.Need-mul-larger Inv-loop μ-loop
 mul-larger c = search needs
@@ -35,54 +34,48 @@ slice-read-larger c = search needs
 larger-requires : tie.Need-larger-requires Inv-loop μ-loop
 larger-requires c κs = search needs
 
-mul-insert-over-first : tie.Need-mul-insert-over-first Inv-loop μ-loop
-mul-insert-over-first c = search needs
+smaller-requires : tie.Need-smaller-requires Inv-loop μ-loop
+smaller-requires c κs = search needs
 
-sub-insert-over-first : tie.Need-sub-insert-over-first Inv-loop μ-loop
-sub-insert-over-first c = search needs
+mul-l : tie.Need-mul-l Inv-loop μ-loop
+mul-l c = search needs
 
-part-insert-over-first-start : tie.Need-part-insert-over-first-start Inv-loop μ-loop
-part-insert-over-first-start c = search needs
+slice-write-l : tie.Need-slice-write-l Inv-loop μ-loop
+slice-write-l c = search needs
 
-part-insert-over-first-end : tie.Need-part-insert-over-first-end Inv-loop μ-loop
-part-insert-over-first-end c = search needs
+larger-requires-2 : tie.Need-larger-requires-2 Inv-loop μ-loop
+larger-requires-2 c κs = search needs
 
-insert-over-first-requires : tie.Need-insert-over-first-requires Inv-loop μ-loop
-insert-over-first-requires c κs = search needs
+add-j : tie.Need-add-j Inv-loop μ-loop
+add-j c = search needs
 
 loop-less : tie.Need-loop-less Inv-loop μ-loop
 loop-less c = search needs
 
 loop-again : tie.Need-loop-again Inv-loop μ-loop
 loop-again c =
-    let a = c .before .before .before .before .before .before .before .before .before .args in
-    let t = c .before .before .before .before .before .before .before .loop in
-    let x = c .before .before .before .before .larger in
-    let call = c .before .before .insert-over-first in
-    let h = t .i - 1 in
-    let n : t .i ≡ suc (t .i - 1) = omega arith in
-    let kept = same-len-mid h (length (t .l) - h) (t .l) (call .last .0) (call .kept .0) in
-    let sorted = sort-on (now (a .l)) (t .l) h (a .s) (omega arith) (t .inv .2) (rw n at (t .inv .3)) (x .result) (call .last .0) (rw n at (t .inv .4)) (x .ensures) (call .ensures) in (
-      omega arith,
-      omega (arith, kept),
-      kept ∙ t .inv .2,
-      take-put h (length (t .l) - h) (t .l) (call .last .0) (omega arith) ∙ take-less h (t .i) (t .l) (now (a .l)) (omega arith) (t .inv .3),
-      put-tail h (length (t .l) - h) (t .l) (call .last .0) (omega arith) (omega arith) ∙ sorted,
+    let t = c .before .before .before .before .before .loop in
+    let y = c .before .before .larger in
+    let v = c .before .smaller in (
+      simp length-set (omega arith),
+      simp length-set (t .inv .1),
+      t .inv .2 ∙ carried-on (t .l) (t .j) (c .before .before .before .before .before .before .before .args .s) (t .carried) (omega arith) (y .result) (v .result) (c .larger2 .result) (y .ensures) (v .ensures) (c .larger2 .ensures),
     )
 
-insert-over-first-requires-2 : tie.Need-insert-over-first-requires-2 Inv-loop μ-loop
-insert-over-first-requires-2 c κs = search needs
+mul-l-2 : tie.Need-mul-l-2 Inv-loop μ-loop
+mul-l-2 c = search needs
+
+slice-write-l-2 : tie.Need-slice-write-l-2 Inv-loop μ-loop
+slice-write-l-2 c = search needs
 
 same-length : tie.Need-same-length Inv-loop μ-loop
 same-length c = search needs
 
 returns : tie.Need-returns Inv-loop μ-loop
 returns c =
-    let a = c .before .before .before .before .before .before .before .args in
-    let t = c .before .before .before .before .before .loop in
-    let call = c .before .before .insert-over-first2 in
-    let n : t .i ≡ 1 = omega (arith, c .before .before .before .before .loop-test .left, t .inv .0) in
-    sort-last (now (a .l)) (t .l) (a .s) (a .f) (call .last .0) (rw n at (t .inv .4)) (call .ensures)
+    let a = c .before .before .before in
+    let t = c .before .loop in
+    carried-last (t .l) (t .j) (a .args .s) (t .carried) (omega arith) (omega arith) ∙ sym (t .inv .2) ∙ carried-availability (a .args .s) (a .args .f) (now (a .args .l)) (a .pre .1)
 
 pub update-availability-spec : {M : Type 1} → statement M
 update-availability-spec =
@@ -91,17 +84,19 @@ update-availability-spec =
     Inv-loop
     μ-loop
     loop-holds
-    sub-i
+    add-loop
+    add-larger
     mul-larger
     slice-read-larger
     larger-requires
-    mul-insert-over-first
-    sub-insert-over-first
-    part-insert-over-first-start
-    part-insert-over-first-end
-    insert-over-first-requires
+    smaller-requires
+    mul-l
+    slice-write-l
+    larger-requires-2
+    add-j
     loop-less
     loop-again
-    insert-over-first-requires-2
+    mul-l-2
+    slice-write-l-2
     same-length
     returns)

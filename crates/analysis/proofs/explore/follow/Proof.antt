@@ -50,7 +50,7 @@ store-successor-requires c κs =
     let σ = stateOf (a .m) (a .k) (now (a .cur)) in
     let given = p .1 in
     let half = given .target .0 in (
-      (p .0, given .setting .jobs, given .setting .cores, given .setting .few-cores, given .words, given .sound .set-fits, fresh js σ (a .i) (a .s) (a .e) (a .f) (p .2)),
+      (p .0, given .setting .jobs, given .setting .cores, given .setting .few-cores, given .words, given .sound .set-fits, fresh js σ (a .i) (a .s) (a .e) (a .f) (p .2), given .sound .bounded .ordered),
       (omega (arith, half .long), half .room, λ j l. half .sound j l .set-fits, given .target .1),
     )
 

@@ -4,6 +4,7 @@ use mathlib.Core.Path.{sym, ap, _∙_, subst}
 use native.Mathlib.Omega.{arith}
 use borrow.Author.Needs.{needs}
 use Rattle.model.specs.States.{State, started}
+use Rattle.model.proofs.Sorted.{Ordered}
 use Rattle.slots.specs.Writing.{withStart}
 use Rattle.analysis.proofs.successor.write_successor.Statement.{statement}
 use Rattle.analysis.proofs.successor.write_successor.Tie as tie
@@ -22,6 +23,7 @@ start-job-requires c κs =
       omega (arith, x .kept .0, p .5),
       subst (λ z. z < 2 ^ a .k) (sym (x .ensures .1)) (p .6),
       ap (λ (σ : State). started σ (a .i)) (x .ensures .0) ∙ p .7,
+      subst Ordered (sym (x .ensures .0)) (p .8),
     )
 
 same-length : tie.Need-same-length
