@@ -1,6 +1,7 @@
 /*
  * Makes the four calls of host/phrase.h from several threads at the same time, on phrases with different answers, and holds each answer and text to what
- * document 01 says. Buffers are the threads' own; only the files are shared, which the calls only read.
+ * document 01 says. Buffers are the threads' own; only the files are shared, which the calls only read. The threads have as much stack as phrase.h says that
+ * every call can do with.
  *
  * Prints one line for each thread that saw a difference, else a count; exit status 0 when there was none.
  */
@@ -12,7 +13,7 @@
 
 #include "phrase.h"
 
-enum { THREADS = 8, ROUNDS = 400, WORDS = 64, ROOM = 200 };
+enum { THREADS = 8, ROUNDS = 400, WORDS = 64, ROOM = 200, STACK = 128 * 1024 };
 
 struct example {
     const char *name;
@@ -74,10 +75,15 @@ static void *play(void *argument)
 int main(void)
 {
     static struct player players[THREADS];
+    pthread_attr_t small;
     int i, failed = 0;
+    if (pthread_attr_init(&small) != 0 || pthread_attr_setstacksize(&small, STACK) != 0) {
+        fprintf(stderr, "threads: a stack of %d bytes cannot be had\n", STACK);
+        return 2;
+    }
     for (i = 0; i < THREADS; i++) {
         players[i].example = &examples[i % EXAMPLES];
-        if (pthread_create(&players[i].thread, NULL, play, &players[i]) != 0) {
+        if (pthread_create(&players[i].thread, &small, play, &players[i]) != 0) {
             fprintf(stderr, "threads: a thread could not be started\n");
             return 2;
         }
