@@ -1,4 +1,4 @@
-// The edges of one state, and what each leaves in the half of the next level.
+// The edges of one state, and what each leaves in the half of the next level, whose index is `heads`.
 ghost use mathlib.Core.Path.{_≡_};
 ghost use mathlib.Core.Bool.{true};
 ghost use Prim.Native.Nat.{_≤_, _<_};
@@ -11,7 +11,6 @@ ghost use Rattle.edges.specs.Edges.{edgeOf, candidates, PredecessorSets};
 ghost use Rattle.edges.specs.declared.Edge.the-variants.{Starts};
 ghost use Rattle.analysis.specs.Observed.{observedOf, Observed};
 ghost use Rattle.analysis.specs.Progress.{Target, Leaves, Explores, Follows};
-use crate::MOST_JOBS;
 use crate::Step;
 use crate::observed::observe;
 use crate::successor::store_successor;
@@ -19,6 +18,7 @@ use edges::Edge;
 use edges::edge_of;
 use edges::list_candidates;
 use edges::work_conserving_bound;
+use jobs::MOST_JOBS;
 use jobs::deadline;
 use jobs::least_execution;
 use jobs::most_execution;
@@ -161,7 +161,7 @@ pub fn try_jobs(
     Step::Going(stored)
 }
 
-// Every edge of one state, into the half, which holds n states and has room for cap.
+// Every edge of one state, into the half, which holds n states and has room for cap. `sets` are the predecessors of each job.
 pub fn try_state(
     half: &mut [u32],
     seen: &mut [u32],

@@ -13,12 +13,12 @@ ghost use Rattle.store.specs.Half.{buckets};
 ghost use Rattle.analysis.specs.Observed.{observedWords, observedOf, Observed};
 ghost use Rattle.analysis.specs.Progress.{Half, Leaves};
 ghost use Rattle.analysis.specs.Outcomes.{Halves, answerIn};
-use crate::MOST_JOBS;
 use crate::Step;
 use crate::explore::try_state;
 use crate::successor::MOST_STATE_WORDS;
 use crate::successor::load_state;
 use edges::write_predecessor_sets;
+use jobs::MOST_JOBS;
 use states::state_words;
 use store::BUCKETS;
 use words::clear;
@@ -94,7 +94,7 @@ pub fn build_level(
     Step::Going(built)
 }
 
-// Builds level after level, from level 0 in the lower half on: the halves change roles.
+// Builds level after level, from level 0 in the lower half on: the halves change roles. The index needs no clearing between levels.
 pub fn climb_levels(
     table: &mut [u32],
     seen: &mut [u32],

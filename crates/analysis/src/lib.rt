@@ -4,9 +4,6 @@ pub mod levels;
 pub mod observed;
 pub mod successor;
 
-// The most jobs that a phrase has.
-pub const MOST_JOBS: usize = 64;
-
 // What exploring leaves in the half of the next level.
 pub enum Step {
     // It holds so many states.

@@ -5,11 +5,12 @@ ghost use Rattle.model.specs.Limits.{mostJobs};
 ghost use Rattle.model.specs.States.{range};
 ghost use Rattle.model.specs.Exploration.{observed};
 ghost use Rattle.analysis.specs.Observed.{observedOf, Observed};
+use jobs::MOST_JOBS;
 use ranges::FinishRange;
 use ranges::widened_in_place;
 
 // Where the latest finish times begin.
-const LATEST: usize = 64;
+const LATEST: usize = MOST_JOBS;
 
 // Widens the observed range of job i by an edge that finishes from e to f.
 pub fn observe(seen: &mut [u32], k: usize, i: usize, e: u32, f: u32)

@@ -21,7 +21,7 @@ module _ (k : ℕ) (f : ℕ → ℕ) (few : k ≤ mostJobs) where
   abbrev zeros : List ℕ
   zeros = replicate (mostJobs - length (tabulate f 0 k)) 0
 
-  pub per-job-length : length (perJob k f) ≡ mostJobs
+  per-job-length : length (perJob k f) ≡ mostJobs
   unfolding perJob
   per-job-length = omega (arith, length-append (tabulate f 0 k) zeros, length-replicate {A = ℕ} (mostJobs - length (tabulate f 0 k)) 0, length-tabulate f 0 k)
 

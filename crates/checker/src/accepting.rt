@@ -10,7 +10,7 @@ ghost use Rattle.checker.specs.Checking.{perJob, resultOf};
 ghost use Rattle.checker.specs.Finished.{Released, responseOf, Finished};
 use crate::Answer;
 use crate::Checked;
-use crate::MOST_JOBS;
+use jobs::MOST_JOBS;
 use jobs::earliest_release;
 use words::copy;
 

@@ -18,9 +18,7 @@ use format::BELL_TABLE;
 use format::JOB_TABLE;
 use format::Reading;
 use format::read;
-
-// The most jobs that a phrase has.
-pub const MOST_JOBS: usize = 64;
+use jobs::MOST_JOBS;
 
 // The words of the observed finish ranges: the earliest finish times of all jobs, then the latest.
 const OBSERVED_WORDS: usize = 2 * MOST_JOBS;

@@ -53,7 +53,7 @@ module _ (q : ℕ → Bool) (f : ℕ → ℕ) (l : List ℕ) (t r : ℕ) (h : t 
       go true infinite e = absurd (omega arith)
       go true (finite y) e = omega arith
 
-  pub smallest-without : q (getD l t 0) ≡ false → r ≡ limitWord (smallestIn q f (take (t + 1) l))
+  smallest-without : q (getD l t 0) ≡ false → r ≡ limitWord (smallestIn q f (take (t + 1) l))
   smallest-without e = rw (turned, e) so-far
 
   -- the element is not below r, or does not pass

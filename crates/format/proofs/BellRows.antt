@@ -16,7 +16,7 @@ pub row-length : (b : Bell) → length (bellRow b) ≡ bellWords
 unfolding bellRow
 row-length b = refl
 
-pub rows-snoc : (bs : List Bell) (b : Bell) → bellRows (bs ++ b ∷ []) ≡ bellRows bs ++ bellRow b
+rows-snoc : (bs : List Bell) (b : Bell) → bellRows (bs ++ b ∷ []) ≡ bellRows bs ++ bellRow b
 unfolding bellRows bellRow
 rows-snoc [] b = refl
 rows-snoc (a ∷ bs) b = ap (λ (l : List ℕ). bellRow a ++ l) (rows-snoc bs b)

@@ -4,7 +4,7 @@ use mathlib.Core.Path.{_≡_}
 use mathlib.Core.List.{List}
 use lib.ListN.{getD, length, take, drop}
 use Rattle.model.specs.Limits.{mostJobs, mostCores, latestTime, longestExecution}
-use Rattle.model.specs.Jobs.{Job, job, predecessors}
+use Rattle.model.specs.Jobs.{Job, predecessors}
 use Rattle.model.proofs.Bounds.{TimedUpTo}
 use Rattle.words.specs.Tabulate.{tabulate}
 

@@ -7,6 +7,9 @@ ghost use Rattle.model.specs.Jobs.{job, predecessors, before};
 ghost use Rattle.jobs.specs.Rows.{rowWords, mostPredecessors, word, jobsOf, Rows};
 ghost use Rattle.jobs.specs.Fields.{fieldCount, fieldAt};
 
+// The most jobs that a phrase has.
+pub const MOST_JOBS: usize = 64;
+
 // The row of a job.
 const ROW_WORDS: usize = 16;
 

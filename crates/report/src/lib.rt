@@ -22,10 +22,10 @@ use crate::lines::put_refused;
 use crate::strokes::put_accepted;
 use checker::Answer;
 use checker::Checked;
-use checker::MOST_JOBS;
 use checker::check_rows;
 use checker::refused;
 use format::JOB_TABLE;
+use jobs::MOST_JOBS;
 use text::put_bytes;
 
 // A page has room for the longest text: a line for every stroke and a last one.

@@ -12,9 +12,9 @@ use crate::lines::Stroke;
 use crate::lines::put_last;
 use crate::lines::put_stroke;
 use checker::Checked;
-use checker::MOST_JOBS;
 use format::JOB_TABLE;
 use format::notes::JOB_WORDS;
+use jobs::MOST_JOBS;
 
 // The words of a job's row that a report tells.
 const MOST_EXECUTION: usize = 3;
