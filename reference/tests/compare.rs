@@ -11,6 +11,7 @@ use std::process::ExitCode;
 
 use common::*;
 use reference::check::{Check, HOST_WORDS};
+use reference::draft::{Draft, DraftBell, DraftNote};
 use reference::foreign;
 use reference::random::{Generator, case};
 use reference::reading::read;
@@ -214,17 +215,7 @@ fn compare_examples() -> Result<(), String> {
     for file in &files {
         for table_words in [0, 7, 8, 31, 32, HOST_WORDS] {
             for seed in 0..20 {
-                let mut trial = Trial {
-                    file,
-                    table_words,
-                    random: Generator::new(seed),
-                };
-                trial
-                    .run(&mut Tally::default(), &mut [0; 2])
-                    .map_err(|difference| {
-                        let file = in_hexadecimal(file);
-                        format!("{difference}\ntable {table_words} words, file {file}")
-                    })?;
+                compare_once(file, table_words, seed)?;
             }
         }
     }
@@ -232,8 +223,53 @@ fn compare_examples() -> Result<(), String> {
     Ok(())
 }
 
+fn compare_once(file: &[u8], table_words: usize, seed: u64) -> Result<(), String> {
+    let mut trial = Trial {
+        file,
+        table_words,
+        random: Generator::new(seed),
+    };
+    trial
+        .run(&mut Tally::default(), &mut [0; 2])
+        .map_err(|difference| {
+            let file = in_hexadecimal(file);
+            format!("{difference}\ntable {table_words} words, file {file}")
+        })
+}
+
+/// Levels of thousands of states: strokes that may go in any order, so that every set of them is one.
+fn compare_large_levels() -> Result<(), String> {
+    const STROKES: u8 = 14;
+    const MOST_STATES: usize = 3_432;
+    let bells = (0..STROKES).map(|number| DraftBell {
+        written: 40 + number,
+        transposition: 0,
+        ca: 1,
+        cb: 3,
+        rank: number % 3,
+    });
+    let notes = (0..STROKES).map(|number| DraftNote::new(40 + number, 0, 1_000, 5_000, vec![]));
+    let bells: Vec<DraftBell> = bells.collect();
+    let notes: Vec<DraftNote> = notes.collect();
+    for drivers in [1, 3] {
+        let file = Draft::new(drivers, bells.clone(), notes.clone()).bytes();
+        let phrase = read(&file).expect("the draft is valid");
+        let pair = 2 * words_per_state(&phrase) as usize;
+        let (enough, _) = check_and_text(&file, MOST_STATES * pair);
+        assert!(enough.host_number() == 0, "{MOST_STATES} states suffice");
+        for states in [MOST_STATES, MOST_STATES - 1, 2_100, 1_000] {
+            compare_once(&file, states * pair, states as u64)?;
+        }
+    }
+    println!("levels of up to {MOST_STATES} states agree");
+    Ok(())
+}
+
 fn main() -> ExitCode {
-    match compare_examples().and_then(|()| compare_random_phrases()) {
+    match compare_examples()
+        .and_then(|()| compare_large_levels())
+        .and_then(|()| compare_random_phrases())
+    {
         Ok(()) => ExitCode::SUCCESS,
         Err(difference) => {
             println!("DIFFERENCE: {difference}");
