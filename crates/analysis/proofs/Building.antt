@@ -20,12 +20,12 @@ use Rattle.states.specs.Slots.{setOf, stateOf, slotOf, statesOf, Sound}
 use Rattle.store.specs.Half.{buckets}
 use Rattle.store.proofs.Storing.{slot-fits}
 use Rattle.store.proofs.Indexing.{nothing-indexed}
-use Rattle.analysis.specs.Observed.{observedOf, Observed}
-use Rattle.analysis.specs.Progress.{progressOf, Half, Target, HalfAt, Leaves}
+use Rattle.steps.specs.Observed.{observedOf, Observed}
+use Rattle.steps.specs.Progress.{progressOf, Half, Target, HalfAt, Leaves}
 use Rattle.analysis.specs.Outcomes.{Halves}
-use Rattle.analysis.specs.declared.Step.{Step}
-use Rattle.analysis.specs.declared.Step.the-variants.{Going, Full, Late}
-use Rattle.analysis.proofs.Following.{Stopped, jobs-stopped}
+use Rattle.steps.specs.declared.Step.{Step}
+use Rattle.steps.specs.declared.Step.the-variants.{Going, Full, Late}
+use Rattle.steps.proofs.Following.{Stopped, jobs-stopped}
 use Rattle.analysis.proofs.Halves.{put-put, source-kept}
 
 -- ---- an exploration that has stopped stays

@@ -16,12 +16,12 @@ use Rattle.words.proofs.Parts.{part, part-length, drop-after}
 use Rattle.jobs.specs.Rows.{jobsOf}
 use Rattle.jobs.proofs.Jobs.{length-jobs}
 use Rattle.states.specs.Slots.{stateOf, slotOf, statesOf}
-use Rattle.analysis.specs.Observed.{observedOf, Observed}
-use Rattle.analysis.specs.Progress.{progressOf, Half, HalfAt, Leaves}
+use Rattle.steps.specs.Observed.{observedOf, Observed}
+use Rattle.steps.specs.Progress.{progressOf, Half, HalfAt, Leaves}
 use Rattle.analysis.specs.Outcomes.{Halves}
-use Rattle.analysis.specs.declared.Step.{Step}
-use Rattle.analysis.specs.declared.Step.the-variants.{Going, Full, Late}
-use Rattle.analysis.proofs.Following.{Stopped}
+use Rattle.steps.specs.declared.Step.{Step}
+use Rattle.steps.specs.declared.Step.the-variants.{Going, Full, Late}
+use Rattle.steps.proofs.Following.{Stopped}
 use Rattle.analysis.proofs.Halves.{Roles, roles-apart, roles-change}
 
 -- ---- an analysis that has stopped stays

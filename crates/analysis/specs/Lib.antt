@@ -1,4 +1,2 @@
--- What the words say while the analysis runs.
-pub mod Observed
-pub mod Progress
+-- What the words say while levels are built.
 pub mod Outcomes

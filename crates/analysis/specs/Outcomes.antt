@@ -3,7 +3,7 @@ use Prim.Native.Nat.{ℕ, _+_, _≤_}
 use mathlib.Core.Logic.{_⊎_}
 use mathlib.Core.List.{List}
 use Rattle.model.specs.Exploration.{Answer, accepted, refused, late}
-use Rattle.analysis.specs.Observed.{observedOf}
+use Rattle.steps.specs.Observed.{observedOf}
 use Rattle.analysis.specs.declared.levels.Outcome.{Outcome}
 use Rattle.analysis.specs.declared.levels.Outcome.the-variants.{Accepted, Full, Late}
 

@@ -18,8 +18,8 @@ use Rattle.model.proofs.Soundness.{all-reported}
 use Rattle.jobs.specs.Rows.{jobsOf, Setting}
 use Rattle.jobs.proofs.Jobs.{length-jobs}
 use Rattle.ranges.specs.Ranges.{rangeIn}
-use Rattle.analysis.specs.Observed.{observedOf, Observed}
-use Rattle.analysis.proofs.Ranges.{observed-at}
+use Rattle.steps.specs.Observed.{observedOf, Observed}
+use Rattle.steps.proofs.Ranges.{observed-at}
 use Rattle.checker.specs.Finished.{Finished}
 
 while-accepted : (P : List State → List Range → Type 0) (x : Exploration) (bounds : List Range) (c : ℕ) → answerOf x ≡ accepted bounds c → WhileGoing P x

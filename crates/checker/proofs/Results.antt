@@ -15,8 +15,8 @@ use Rattle.model.specs.Exploration.{accepted}
 use Rattle.words.proofs.Tabulate.{tabulate-is}
 use Rattle.jobs.specs.Rows.{jobsOf}
 use Rattle.jobs.proofs.Jobs.{length-jobs}
-use Rattle.analysis.specs.Observed.{observedOf}
-use Rattle.analysis.proofs.Ranges.{observed-at}
+use Rattle.steps.specs.Observed.{observedOf}
+use Rattle.steps.proofs.Ranges.{observed-at}
 use Rattle.checker.specs.Checking.{perJob, resultOf, boundOf, boundsOf}
 use Rattle.checker.specs.Finished.{releaseOf, responseOf, Released, Finished}
 use Rattle.checker.specs.declared.Answer.the-variants.{Accepted}

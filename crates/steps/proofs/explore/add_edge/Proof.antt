@@ -6,12 +6,12 @@ use denote.Ref.{now}
 use Rattle.model.specs.Edges.{earliestFinish, latestFinish}
 use Rattle.jobs.specs.Rows.{jobsOf}
 use Rattle.states.specs.Slots.{stateOf, statesOf}
-use Rattle.analysis.specs.Observed.{observedOf}
-use Rattle.analysis.specs.Progress.{Follows}
-use Rattle.analysis.proofs.Following.{edge-starts, an-edge, finishes-fit}
+use Rattle.steps.specs.Observed.{observedOf}
+use Rattle.steps.specs.Progress.{Follows}
+use Rattle.steps.proofs.Following.{edge-starts, an-edge, finishes-fit}
 use borrow.Author.Needs.{needs}
-use Rattle.analysis.proofs.explore.add_edge.Statement.{statement}
-use Rattle.analysis.proofs.explore.add_edge.Tie as tie
+use Rattle.steps.proofs.explore.add_edge.Statement.{statement}
+use Rattle.steps.proofs.explore.add_edge.Tie as tie
 
 least-execution-requires : tie.Need-least-execution-requires
 least-execution-requires c κs = search needs

@@ -6,8 +6,8 @@ use borrow.Author.Needs.{needs}
 use Rattle.model.specs.States.{State, started}
 use Rattle.model.proofs.Sorted.{Ordered}
 use Rattle.slots.specs.Writing.{withStart}
-use Rattle.analysis.proofs.successor.write_successor.Statement.{statement}
-use Rattle.analysis.proofs.successor.write_successor.Tie as tie
+use Rattle.steps.proofs.successor.write_successor.Statement.{statement}
+use Rattle.steps.proofs.successor.write_successor.Tie as tie
 
 load-state-requires : tie.Need-load-state-requires
 load-state-requires c κs = search needs

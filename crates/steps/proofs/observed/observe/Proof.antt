@@ -10,10 +10,10 @@ use Rattle.model.specs.Exploration.{hull}
 use Rattle.model.specs.Limits.{mostJobs}
 use Rattle.ranges.specs.Ranges.{rangeOf}
 use Rattle.ranges.proofs.Widening.{widened-hull}
-use Rattle.analysis.specs.Observed.{observedOf}
-use Rattle.analysis.proofs.Ranges.{observed-at, observed-set, observed-kept}
-use Rattle.analysis.proofs.observed.observe.Statement.{statement}
-use Rattle.analysis.proofs.observed.observe.Tie as tie
+use Rattle.steps.specs.Observed.{observedOf}
+use Rattle.steps.proofs.Ranges.{observed-at, observed-set, observed-kept}
+use Rattle.steps.proofs.observed.observe.Statement.{statement}
+use Rattle.steps.proofs.observed.observe.Tie as tie
 
 mul-t7 : tie.Need-mul-t7
 mul-t7 c = search needs

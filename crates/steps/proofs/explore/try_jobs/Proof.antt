@@ -11,12 +11,12 @@ use Rattle.model.specs.Exploration.{Exploration, going, tryJob}
 use Rattle.jobs.specs.Rows.{jobsOf}
 use Rattle.states.specs.Slots.{stateOf, statesOf}
 use Rattle.edges.proofs.Listing.{listed-candidate}
-use Rattle.analysis.specs.Observed.{observedOf, Observed}
-use Rattle.analysis.specs.Progress.{progressOf, Target, HalfAt}
-use Rattle.analysis.specs.declared.Step.{Step}
-use Rattle.analysis.proofs.Following.{tryListed, one-more, all-tried, stopped}
-use Rattle.analysis.proofs.explore.try_jobs.Statement.{statement}
-use Rattle.analysis.proofs.explore.try_jobs.Tie as tie
+use Rattle.steps.specs.Observed.{observedOf, Observed}
+use Rattle.steps.specs.Progress.{progressOf, Target, HalfAt}
+use Rattle.steps.specs.declared.Step.{Step}
+use Rattle.steps.proofs.Following.{tryListed, one-more, all-tried, stopped}
+use Rattle.steps.proofs.explore.try_jobs.Statement.{statement}
+use Rattle.steps.proofs.explore.try_jobs.Tie as tie
 
 abbrev Inv-loop : tie.InvT-loop
 Inv-loop half₀ seen₀ heads₀ n cap rows k cur m list bound stored₀ t₀ half seen heads stored t =

@@ -11,11 +11,11 @@ use Rattle.model.specs.Exploration.{limited, stored}
 use Rattle.jobs.specs.Rows.{jobsOf}
 use Rattle.states.specs.Slots.{stateOf, statesOf}
 use Rattle.slots.specs.Writing.{withStart}
-use Rattle.analysis.specs.Observed.{observedOf}
-use Rattle.analysis.proofs.Following.{inside, most-positive, fresh, takes-time, new-bounded, edge-late, edge-kept}
+use Rattle.steps.specs.Observed.{observedOf}
+use Rattle.steps.proofs.Following.{inside, most-positive, fresh, takes-time, new-bounded, edge-late, edge-kept}
 use borrow.Author.Needs.{needs}
-use Rattle.analysis.proofs.explore.follow.Statement.{statement}
-use Rattle.analysis.proofs.explore.follow.Tie as tie
+use Rattle.steps.proofs.explore.follow.Statement.{statement}
+use Rattle.steps.proofs.explore.follow.Tie as tie
 
 observe-requires : tie.Need-observe-requires
 observe-requires c κs =

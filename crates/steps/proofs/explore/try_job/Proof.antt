@@ -3,11 +3,11 @@ use mathlib.Core.Path.{sym, _∙_}
 use denote.Ref.{now}
 use Rattle.jobs.specs.Rows.{jobsOf}
 use Rattle.states.specs.Slots.{stateOf, statesOf}
-use Rattle.analysis.specs.Observed.{observedOf}
-use Rattle.analysis.proofs.Following.{no-edge}
+use Rattle.steps.specs.Observed.{observedOf}
+use Rattle.steps.proofs.Following.{no-edge}
 use borrow.Author.Needs.{needs}
-use Rattle.analysis.proofs.explore.try_job.Statement.{statement}
-use Rattle.analysis.proofs.explore.try_job.Tie as tie
+use Rattle.steps.proofs.explore.try_job.Statement.{statement}
+use Rattle.steps.proofs.explore.try_job.Tie as tie
 
 edge-of-requires : tie.Need-edge-of-requires
 edge-of-requires c κs =

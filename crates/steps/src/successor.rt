@@ -13,7 +13,7 @@ ghost use Rattle.model.proofs.Bounds.{Bounded};
 ghost use Rattle.states.specs.Slots.{setOf, stateOf, statesOf};
 ghost use Rattle.slots.specs.Writing.{withStart};
 ghost use Rattle.store.specs.Half.{SetsFit, Indexed};
-ghost use Rattle.analysis.specs.Progress.{progressOf, Half, HalfAt};
+ghost use Rattle.steps.specs.Progress.{progressOf, Half, HalfAt};
 use crate::Step;
 use slots::start_job;
 use states::level_of;

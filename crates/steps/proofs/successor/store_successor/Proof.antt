@@ -15,8 +15,8 @@ use Rattle.slots.specs.Writing.{withStart}
 use Rattle.slots.proofs.Starts.{joined-fits}
 use Rattle.store.specs.Half.{levelOf, SoundAt, IndexedAt}
 use Rattle.store.specs.declared.Stored.{Stored}
-use Rattle.analysis.proofs.successor.store_successor.Statement.{statement}
-use Rattle.analysis.proofs.successor.store_successor.Tie as tie
+use Rattle.steps.proofs.successor.store_successor.Statement.{statement}
+use Rattle.steps.proofs.successor.store_successor.Tie as tie
 
 slice-aggregate-write-successor : tie.Need-slice-aggregate-write-successor
 slice-aggregate-write-successor c = search needs

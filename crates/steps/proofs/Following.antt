@@ -22,7 +22,7 @@ use Rattle.slots.specs.Writing.{withStart}
 use Rattle.edges.specs.declared.Edge.the-variants.{NotEligible, Starts}
 use Rattle.edges.specs.Edges.{edgeOf, candidates}
 use Rattle.edges.proofs.Listing.{fold-listed, fold-turn}
-use Rattle.analysis.specs.Progress.{Follows}
+use Rattle.steps.specs.Progress.{Follows}
 
 -- ---- an edge that was found
 

@@ -7,9 +7,9 @@ use denote.Ref.{now}
 use borrow.Author.Needs.{needs}
 use borrow.Rule.Slice.PartMut.{postOf}
 use Rattle.model.specs.Exploration.{stateWords}
-use Rattle.analysis.proofs.Copies.{copied-state, copied-set}
-use Rattle.analysis.proofs.successor.load_state.Statement.{statement}
-use Rattle.analysis.proofs.successor.load_state.Tie as tie
+use Rattle.steps.proofs.Copies.{copied-state, copied-set}
+use Rattle.steps.proofs.successor.load_state.Statement.{statement}
+use Rattle.steps.proofs.successor.load_state.Tie as tie
 
 state-words-requires : tie.Need-state-words-requires
 state-words-requires c κs = search needs

@@ -7,8 +7,8 @@ use borrow.Author.Needs.{needs}
 use Rattle.jobs.specs.Rows.{jobsOf}
 use Rattle.states.specs.Slots.{stateOf}
 use Rattle.edges.specs.Edges.{candidates}
-use Rattle.analysis.proofs.explore.try_state.Statement.{statement}
-use Rattle.analysis.proofs.explore.try_state.Tie as tie
+use Rattle.steps.proofs.explore.try_state.Statement.{statement}
+use Rattle.steps.proofs.explore.try_state.Tie as tie
 
 slice-aggregate-list-candidates : tie.Need-slice-aggregate-list-candidates
 slice-aggregate-list-candidates c = search needs

@@ -1,0 +1,4 @@
+-- Laws that belong to no one function.
+pub mod Ranges
+pub mod Copies
+pub mod Following

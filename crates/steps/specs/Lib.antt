@@ -1,0 +1,3 @@
+-- What the words say while a state is explored.
+pub mod Observed
+pub mod Progress
