@@ -5,11 +5,9 @@ use mathlib.Core.Bool.{Bool, true, false, cond}
 use mathlib.Core.List.{List}
 use native.Mathlib.Nat.{zero-add}
 use native.Mathlib.Omega.{arith}
-use lib.ListN.{length, take}
+use lib.ListN.{length}
 use borrow.Author.Tests.{le-leb, lt-leb, leb-true, leb-false}
 use Rattle.words.specs.Placed.{placed}
-use Rattle.words.proofs.Placing.{take-placed}
-use Rattle.text.specs.Written.{Written}
 use Rattle.checker.specs.Checking.{refusing, Told, toldOf}
 use Rattle.checker.specs.declared.Answer.the-variants.{Accepted, Refused}
 use Rattle.checker.specs.declared.Checked.{Checked}
@@ -45,10 +43,6 @@ module _ (text buffer : List ℕ) where
   -- a text that is not empty has no length only where the buffer is shorter
   pub none-only-short : 1 ≤ length text → lengthIn text buffer ≡ 0 → length buffer < length text
   none-only-short h z = none-in-buffer h (fits text buffer) refl z
-
--- the text at the beginning of a page
-pub written-front : (before text after : List ℕ) (end : ℕ) → Written before 0 text after end → take end after ≡ text
-written-front before text after end w = rw (w .ended, w .holds) (take-placed before 0 text (omega arith))
 
 -- ---- the result
 

@@ -25,6 +25,10 @@ strokeIn rows earliest latest best worst i =
       deadline = word rows i deadlineAt;
     }
 
+-- the lines of k strokes
+abbrev pub strokesText : List ℕ → List ℕ → List ℕ → List ℕ → List ℕ → ℕ → List ℕ
+strokesText rows earliest latest best worst = lines (λ i. strokeLine (strokeIn rows earliest latest best worst i))
+
 abbrev pub holdIn : List ℕ → ℕ → ℕ
 holdIn rows = sum (λ i. word rows i mostExecutionAt)
 
@@ -34,7 +38,7 @@ Keyed rows k = (i : ℕ) → i < k → lowestKey ≤ word rows i keyAt
 
 abbrev pub acceptedText : Checked → List ℕ → List ℕ
 acceptedText r rows =
-    lines (λ i. strokeLine (strokeIn rows (r .earliest) (r .latest) (r .best) (r .worst) i)) (r .jobs)
+    strokesText rows (r .earliest) (r .latest) (r .best) (r .worst) (r .jobs)
     ++ acceptedLine (r .jobs) (r .states) (holdIn rows (r .jobs))
 
 abbrev pub textIn : Answer → Checked → List ℕ → List ℕ

@@ -1,35 +1,32 @@
 // The report of a check: a file is read and checked, and its text written into a lent buffer.
+mod lengths;
 mod lines;
 mod strokes;
 
 ghost use mathlib.Core.Path.{_≡_};
 ghost use Prim.Native.Nat.{_≤_};
-ghost use lib.ListN.{length, take, drop};
+ghost use lib.ListN.{length, drop};
 ghost use Rattle.model.specs.Limits.{mostJobs};
 ghost use Rattle.model.specs.Dispatch.{Scenario};
 ghost use Rattle.model.specs.Guarantee.{Admissible, Kept};
 ghost use Rattle.format.specs.Phrase.{Phrase, jobsOf};
 ghost use Rattle.format.specs.Reading.{reading, ok};
-ghost use Rattle.text.specs.Written.{Written};
+ghost use Rattle.text.specs.Written.{Room, Written};
 ghost use Rattle.checker.specs.Checking.{usedWords, toldOf, boundsOf};
 ghost use Rattle.report.specs.Report.{textOf, delivered, reportedIn, reportedOf, toldIn};
-ghost use Rattle.report.specs.Room.{pageRoom};
+ghost use Rattle.report.specs.Longest.{longestText};
 ghost use Rattle.report.specs.Rows.{Keyed, textIn};
-use crate::lines::LAST;
-use crate::lines::LINE;
+use crate::lengths::late_length;
+use crate::lengths::refused_length;
 use crate::lines::put_late;
 use crate::lines::put_refused;
+use crate::strokes::accepted_length;
 use crate::strokes::put_accepted;
 use checker::Answer;
 use checker::Checked;
 use checker::check_rows;
 use checker::refused;
 use format::JOB_TABLE;
-use jobs::MOST_JOBS;
-use text::put_bytes;
-
-// A page has room for the longest text: a line for every stroke and a last one.
-const PAGE: usize = MOST_JOBS * LINE + LAST;
 
 // The number of the refusal of a buffer that is shorter than the text.
 const SHORT: u32 = 15;
@@ -40,33 +37,46 @@ pub struct Reported {
     pub length: usize,
 }
 
-// Writes the text on a page.
-fn compose(page: &mut [u8], rows: &[u32; JOB_TABLE], checked: Checked) -> usize
-    requires { ⌜ (checked .jobs ≤ mostJobs) × (pageRoom ≤ length (now page)) × Keyed (now rows) (checked .jobs) ⌝ }
-    ensures { λ r. ⌜ Written (now (page .entry)) 0 (textIn (checked .answer) checked (now (rows .entry))) (now (page .exit)) r ⌝ }
-    ensures { λ r. ⌜ r ≤ pageRoom ⌝ }
+// How long the text is.
+fn text_length(rows: &[u32; JOB_TABLE], checked: Checked) -> usize
+    requires { ⌜ (checked .jobs ≤ mostJobs) × Keyed (now rows) (checked .jobs) ⌝ }
+    ensures { λ r. ⌜ (r ≡ length (textIn (checked .answer) checked (now (rows .entry)))) × (r ≤ longestText) ⌝ }
 {
     let answer = checked.answer;
     match answer {
-        Answer::Accepted => put_accepted(page, rows, checked),
-        Answer::Refused(number, place) => put_refused(page, number, place),
-        Answer::Late(job, earliest, latest) => put_late(page, job, earliest, latest),
+        Answer::Accepted => accepted_length(rows, checked),
+        Answer::Refused(number, place) => refused_length(number, place),
+        Answer::Late(job, earliest, latest) => late_length(job, earliest, latest),
     }
 }
 
-// Copies the text, the first bytes of the page up to `end`, where it has room.
-fn deliver(text: &mut [u8], page: &[u8], end: usize, checked: Checked) -> Reported
-    requires { ⌜ end ≤ length (now page) ⌝ }
-    ensures { λ r. ⌜ r ≡ reportedIn checked (take end (now (page .entry))) (now (text .entry)) ⌝ }
-    ensures { λ _. ⌜ now (text .exit) ≡ delivered (take end (now (page .entry))) (now (text .entry)) ⌝ }
+// Writes the text from the start of a buffer on.
+fn put_text(text: &mut [u8], rows: &[u32; JOB_TABLE], checked: Checked) -> usize
+    requires { ⌜ (checked .jobs ≤ mostJobs) × Keyed (now rows) (checked .jobs) × Room (now text) 0 (textIn (checked .answer) checked (now rows)) ⌝ }
+    ensures { λ r. ⌜ Written (now (text .entry)) 0 (textIn (checked .answer) checked (now (rows .entry))) (now (text .exit)) r ⌝ }
 {
-    if text.len() < end {
+    let answer = checked.answer;
+    match answer {
+        Answer::Accepted => put_accepted(text, rows, checked),
+        Answer::Refused(number, place) => put_refused(text, number, place),
+        Answer::Late(job, earliest, latest) => put_late(text, job, earliest, latest),
+    }
+}
+
+// Writes the text where it has room.
+fn deliver(text: &mut [u8], rows: &[u32; JOB_TABLE], checked: Checked) -> Reported
+    requires { ⌜ (checked .jobs ≤ mostJobs) × Keyed (now rows) (checked .jobs) ⌝ }
+    ensures { λ r. ⌜ r ≡ reportedIn checked (textIn (checked .answer) checked (now (rows .entry))) (now (text .entry)) ⌝ }
+    ensures { λ _. ⌜ now (text .exit) ≡ delivered (textIn (checked .answer) checked (now (rows .entry))) (now (text .entry)) ⌝ }
+{
+    let needed = text_length(rows, checked);
+    if text.len() < needed {
         return Reported {
             checked: refused(Answer::Refused(SHORT, 0)),
             length: 0,
         };
     }
-    let length = put_bytes(text, 0, &page[..end]);
+    let length = put_text(text, rows, checked);
     Reported { checked, length }
 }
 
@@ -84,7 +94,5 @@ pub fn report(file: &[u8], table: &mut [u32], text: &mut [u8]) -> Reported
 {
     let mut rows = [0u32; JOB_TABLE];
     let checked = check_rows(file, &mut rows, table);
-    let mut page = [0u8; PAGE];
-    let end = compose(&mut page, &rows, checked);
-    deliver(text, &page, end, checked)
+    deliver(text, &rows, checked)
 }

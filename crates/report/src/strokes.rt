@@ -4,10 +4,11 @@ ghost use Prim.Native.Nat.{_+_, _*_, _≤_, _<_};
 ghost use lib.ListN.{length};
 ghost use Rattle.model.specs.Limits.{mostJobs};
 ghost use Rattle.jobs.specs.Rows.{rowWords, word};
-ghost use Rattle.text.specs.Written.{Written};
-ghost use Rattle.report.specs.Lines.{strokeLine, lines};
-ghost use Rattle.report.specs.Room.{lineRoom, pageRoom};
-ghost use Rattle.report.specs.Rows.{strokeIn, holdIn, Keyed, acceptedText};
+ghost use Rattle.text.specs.Written.{Room, Written};
+ghost use Rattle.report.specs.Longest.{longestStroke, longestText};
+ghost use Rattle.report.specs.Rows.{strokeIn, strokesText, holdIn, Keyed, acceptedText};
+use crate::lengths::last_length;
+use crate::lengths::stroke_length;
 use crate::lines::Stroke;
 use crate::lines::put_last;
 use crate::lines::put_stroke;
@@ -56,9 +57,8 @@ fn stroke(
     }
 }
 
-// The lines of k strokes.
-fn put_strokes(
-    page: &mut [u8],
+// How long the lines of k strokes are.
+fn strokes_length(
     rows: &[u32; JOB_TABLE],
     k: usize,
     earliest: &[u32; MOST_JOBS],
@@ -66,15 +66,38 @@ fn put_strokes(
     best: &[u32; MOST_JOBS],
     worst: &[u32; MOST_JOBS],
 ) -> usize
-    requires { ⌜ (k ≤ mostJobs) × (pageRoom ≤ length (now page)) × Keyed (now rows) k ⌝ }
-    ensures { λ r. ⌜ Written (now (page .entry)) 0 (lines (λ i. strokeLine (strokeIn (now (rows .entry)) (now (earliest .entry))
-        (now (latest .entry)) (now (best .entry)) (now (worst .entry)) i)) k) (now (page .exit)) r ⌝ }
-    ensures { λ r. ⌜ r ≤ k * lineRoom ⌝ }
+    requires { ⌜ (k ≤ mostJobs) × Keyed (now rows) k ⌝ }
+    ensures { λ r. ⌜ (r ≡ length (strokesText (now (rows .entry)) (now (earliest .entry)) (now (latest .entry)) (now (best .entry))
+        (now (worst .entry)) k)) × (r ≤ k * longestStroke) ⌝ }
+{
+    let mut total = 0;
+    let mut i = 0;
+    while i < k {
+        total += stroke_length(stroke(rows, earliest, latest, best, worst, i));
+        i += 1;
+    }
+    total
+}
+
+// The lines of k strokes.
+fn put_strokes(
+    buffer: &mut [u8],
+    rows: &[u32; JOB_TABLE],
+    k: usize,
+    earliest: &[u32; MOST_JOBS],
+    latest: &[u32; MOST_JOBS],
+    best: &[u32; MOST_JOBS],
+    worst: &[u32; MOST_JOBS],
+) -> usize
+    requires { ⌜ (k ≤ mostJobs) × Keyed (now rows) k
+        × Room (now buffer) 0 (strokesText (now rows) (now earliest) (now latest) (now best) (now worst) k) ⌝ }
+    ensures { λ r. ⌜ Written (now (buffer .entry)) 0 (strokesText (now (rows .entry)) (now (earliest .entry)) (now (latest .entry))
+        (now (best .entry)) (now (worst .entry)) k) (now (buffer .exit)) r ⌝ }
 {
     let mut at = 0;
     let mut i = 0;
     while i < k {
-        at = put_stroke(page, at, stroke(rows, earliest, latest, best, worst, i));
+        at = put_stroke(buffer, at, stroke(rows, earliest, latest, best, worst, i));
         i += 1;
     }
     at
@@ -94,16 +117,28 @@ fn hold(rows: &[u32; JOB_TABLE], k: usize) -> u64
     total
 }
 
-pub fn put_accepted(page: &mut [u8], rows: &[u32; JOB_TABLE], checked: Checked) -> usize
-    requires { ⌜ (checked .jobs ≤ mostJobs) × (pageRoom ≤ length (now page)) × Keyed (now rows) (checked .jobs) ⌝ }
-    ensures { λ r. ⌜ Written (now (page .entry)) 0 (acceptedText checked (now (rows .entry))) (now (page .exit)) r ⌝ }
-    ensures { λ r. ⌜ r ≤ pageRoom ⌝ }
+pub fn accepted_length(rows: &[u32; JOB_TABLE], checked: Checked) -> usize
+    requires { ⌜ (checked .jobs ≤ mostJobs) × Keyed (now rows) (checked .jobs) ⌝ }
+    ensures { λ r. ⌜ (r ≡ length (acceptedText checked (now (rows .entry)))) × (r ≤ longestText) ⌝ }
 {
     let k = checked.jobs;
     let earliest = checked.earliest;
     let latest = checked.latest;
     let best = checked.best;
     let worst = checked.worst;
-    let at = put_strokes(page, rows, k, &earliest, &latest, &best, &worst);
-    put_last(page, at, k, checked.states, hold(rows, k))
+    strokes_length(rows, k, &earliest, &latest, &best, &worst)
+        + last_length(k, checked.states, hold(rows, k))
+}
+
+pub fn put_accepted(buffer: &mut [u8], rows: &[u32; JOB_TABLE], checked: Checked) -> usize
+    requires { ⌜ (checked .jobs ≤ mostJobs) × Keyed (now rows) (checked .jobs) × Room (now buffer) 0 (acceptedText checked (now rows)) ⌝ }
+    ensures { λ r. ⌜ Written (now (buffer .entry)) 0 (acceptedText checked (now (rows .entry))) (now (buffer .exit)) r ⌝ }
+{
+    let k = checked.jobs;
+    let earliest = checked.earliest;
+    let latest = checked.latest;
+    let best = checked.best;
+    let worst = checked.worst;
+    let at = put_strokes(buffer, rows, k, &earliest, &latest, &best, &worst);
+    put_last(buffer, at, k, checked.states, hold(rows, k))
 }

@@ -1,6 +1,6 @@
 -- How long the texts of numbers and keys are. Assumes nothing.
 use Prim.Native.Nat.{ℕ, zero, suc, _+_, _-_, _/_, _%_, _^_, _≤_, _<_, max}
-use mathlib.Core.Path.{_≡_, refl}
+use mathlib.Core.Path.{_≡_, refl, ap}
 use mathlib.Core.Bool.{Bool, true, false}
 use mathlib.Core.List.{List, [], _∷_}
 use native.Mathlib.Nat.{pow-suc}
@@ -17,6 +17,19 @@ length-low n h = rw (decimal-low n h)
 
 pub length-high : (n : ℕ) → 10 ≤ n → length (decimal n) ≡ length (decimal (n / 10)) + 1
 length-high n h = rw (decimal-high n h) (length-append (decimal (n / 10)) (digit n ∷ []))
+
+pub length-ten-thousand : (n : ℕ) → 10000 ≤ n → length (decimal n) ≡ length (decimal (n / 10000)) + 4
+length-ten-thousand n h =
+    let e : n / 10 / 10 / 10 / 10 ≡ n / 10000 = omega arith in
+    let p = ap (λ (q : ℕ). length (decimal q)) e in
+    omega (
+      arith,
+      p,
+      length-high n (omega arith),
+      length-high (n / 10) (omega arith),
+      length-high (n / 10 / 10) (omega arith),
+      length-high (n / 10 / 10 / 10) (omega arith),
+    )
 
 longer : (k n : ℕ) (b : Bool) → ltb n 10 ≡ b → length (decimal (n / 10)) ≤ k → length (decimal n) ≤ suc k
 longer k n true e h = omega (arith, length-low n (ltb-true n 10 e))

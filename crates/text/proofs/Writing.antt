@@ -1,11 +1,18 @@
 -- Texts one after the other in a buffer. Assumes nothing.
 use Prim.Native.Nat.{ℕ, _≤_}
-use mathlib.Core.Path.{_∙_}
+use mathlib.Core.Path.{_∙_, ap}
 use mathlib.Core.List.{List, _++_}
 use native.Mathlib.Omega.{arith}
 use lib.ListN.{length, length-append}
-use Rattle.words.proofs.Placing.{placed-append}
-use Rattle.text.specs.Written.{Written}
+use Rattle.words.proofs.Placing.{placed-append, length-placed}
+use Rattle.text.specs.Written.{Room, Written}
+
+pub within : {before : List ℕ} {at : ℕ} {s : List ℕ} → Room before at s → at ≤ length before
+within h = omega (arith, h .fits)
+
+-- room for a text and the next one is room for the first
+pub room-first : {before : List ℕ} {at : ℕ} (s t : List ℕ) → Room before at (s ++ t) → Room before at s
+room-first s t h = record { fits = omega (arith, length-append s t, h .fits) }
 
 module _ {before : List ℕ} {at : ℕ} {s mid : List ℕ} {e₁ : ℕ} where
   -- a text and the next one are one text
@@ -16,3 +23,8 @@ module _ {before : List ℕ} {at : ℕ} {s mid : List ℕ} {e₁ : ℕ} where
         ended = omega (arith, length-append s t, a .ended, b .ended);
         holds = b .holds ∙ rw (a .holds) (placed-append before at e₁ s t h (omega (arith, a .ended)));
       }
+
+  -- and once that is written, for the next
+  pub room-rest : (t : List ℕ) → Room before at (s ++ t) → Written before at s mid e₁ → Room mid e₁ t
+  room-rest t h a =
+      record { fits = omega (arith, length-append s t, h .fits, a .ended, ap length (a .holds), length-placed before at s (room-first s t h .fits)) }

@@ -1,42 +1,72 @@
-// Text written into a buffer: fixed bytes, decimal numbers, names of keys. Each function answers where its text ends.
+// Text written into a buffer: fixed bytes, decimal numbers, names of keys, and how long these are. A writer answers where its text ends.
 ghost use mathlib.Core.Path.{_≡_};
 ghost use mathlib.Core.List.{[], _∷_};
 ghost use Prim.Native.Nat.{_+_, _%_, _≤_, _<_};
 ghost use lib.ListN.{getD, length, take};
 ghost use Rattle.text.specs.Decimal.{digit, decimal};
 ghost use Rattle.text.specs.Keys.{names, keyText};
-ghost use Rattle.text.specs.Written.{Written};
+ghost use Rattle.text.specs.Written.{Room, Written};
 
-pub fn put_bytes(page: &mut [u8], at: usize, s: &[u8]) -> usize
-    requires { ⌜ at + length (now s) ≤ length (now page) ⌝ }
-    ensures { λ r. ⌜ Written (now (page .entry)) at (now (s .entry)) (now (page .exit)) r ⌝ }
+pub fn put_bytes(buffer: &mut [u8], at: usize, s: &[u8]) -> usize
+    requires { ⌜ Room (now buffer) at (now s) ⌝ }
+    ensures { λ r. ⌜ Written (now (buffer .entry)) at (now (s .entry)) (now (buffer .exit)) r ⌝ }
 {
     let mut i = 0;
     while i < s.len() {
-        page[at + i] = s[i];
+        buffer[at + i] = s[i];
         i += 1;
     }
     at + i
 }
 
 // The last digit of n.
-fn put_digit(page: &mut [u8], at: usize, n: u64) -> usize
-    requires { ⌜ at < length (now page) ⌝ }
-    ensures { λ r. ⌜ Written (now (page .entry)) at (digit n ∷ []) (now (page .exit)) r ⌝ }
+fn put_digit(buffer: &mut [u8], at: usize, n: u64) -> usize
+    requires { ⌜ at < length (now buffer) ⌝ }
+    ensures { λ r. ⌜ Written (now (buffer .entry)) at (digit n ∷ []) (now (buffer .exit)) r ⌝ }
 {
-    page[at] = (48 + n % 10) as u8;
+    buffer[at] = (48 + n % 10) as u8;
     at + 1
 }
 
-pub fn put_decimal(page: &mut [u8], at: usize, n: u64) -> usize
-    requires { ⌜ at + length (decimal n) ≤ length (now page) ⌝ }
-    ensures { λ r. ⌜ Written (now (page .entry)) at (decimal n) (now (page .exit)) r ⌝ }
+pub fn put_decimal(buffer: &mut [u8], at: usize, n: u64) -> usize
+    requires { ⌜ Room (now buffer) at (decimal n) ⌝ }
+    ensures { λ r. ⌜ Written (now (buffer .entry)) at (decimal n) (now (buffer .exit)) r ⌝ }
 {
     if n < 10 {
-        return put_digit(page, at, n);
+        return put_digit(buffer, at, n);
     }
-    let last = put_decimal(page, at, n / 10);
-    put_digit(page, last, n)
+    let last = put_decimal(buffer, at, n / 10);
+    put_digit(buffer, last, n)
+}
+
+// How many digits a number below ten thousand has.
+fn few_digits(n: u64) -> usize
+    requires { ⌜ n < 10000 ⌝ }
+    ensures { λ r. ⌜ r ≡ length (decimal n) ⌝ }
+{
+    if n < 10 {
+        return 1;
+    }
+    if n < 100 {
+        return 2;
+    }
+    if n < 1000 {
+        return 3;
+    }
+    4
+}
+
+// How many digits n has. Four at a time: most numbers of a report then take no division.
+pub fn digits(n: u64) -> usize
+    ensures { λ r. ⌜ (r ≡ length (decimal n)) × (r ≤ 20) ⌝ }
+{
+    let mut rest = n;
+    let mut count = 0;
+    while 10000 <= rest {
+        rest = rest / 10000;
+        count += 4;
+    }
+    count + few_digits(rest)
 }
 
 // The bytes of a note's name, and how many of them it has.
@@ -64,13 +94,23 @@ fn name_of(key: u32) -> Name
     NAMES[i]
 }
 
-pub fn put_key(page: &mut [u8], at: usize, key: u32) -> usize
-    requires { ⌜ (12 ≤ key) × (at + length (keyText key) ≤ length (now page)) ⌝ }
-    ensures { λ r. ⌜ Written (now (page .entry)) at (keyText key) (now (page .exit)) r ⌝ }
+pub fn put_key(buffer: &mut [u8], at: usize, key: u32) -> usize
+    requires { ⌜ (12 ≤ key) × Room (now buffer) at (keyText key) ⌝ }
+    ensures { λ r. ⌜ Written (now (buffer .entry)) at (keyText key) (now (buffer .exit)) r ⌝ }
 {
     let name = name_of(key);
     let bytes = name.0;
     let len = name.1;
-    let end = put_bytes(page, at, &bytes[..len]);
-    put_decimal(page, end, (key / 12 - 1) as u64)
+    let end = put_bytes(buffer, at, &bytes[..len]);
+    put_decimal(buffer, end, (key / 12 - 1) as u64)
+}
+
+// How long the name of a key is.
+pub fn key_length(key: u32) -> usize
+    requires { ⌜ 12 ≤ key ⌝ }
+    ensures { λ r. ⌜ (r ≡ length (keyText key)) × (r ≤ 11) ⌝ }
+{
+    let name = name_of(key);
+    let len = name.1;
+    len + digits((key / 12 - 1) as u64)
 }

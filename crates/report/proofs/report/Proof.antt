@@ -1,4 +1,4 @@
--- `report` meets its contract: the file is checked, its text composed on a page and delivered. Assumes nothing.
+-- `report` meets its contract: the file is checked, its text written where it has room. Assumes nothing.
 use mathlib.Core.Path.{ap, _∙_}
 use native.Mathlib.Omega.{arith}
 use lib.ListN.{length}
@@ -10,7 +10,7 @@ use Rattle.checker.specs.Checking.{verdict, toldOf, toldFor}
 use Rattle.checker.proofs.Promise.{runs-kept, as-written}
 use Rattle.report.specs.Report.{fits, textOf, delivered, reportedIn}
 use Rattle.report.specs.declared.Reported.{Reported}
-use Rattle.report.proofs.Delivery.{written-front, reported-told, reported-accepted}
+use Rattle.report.proofs.Delivery.{reported-told, reported-accepted}
 use Rattle.report.proofs.Texts.{Composed, composed}
 use Rattle.report.proofs.report.Statement.{statement}
 use Rattle.report.proofs.report.Tie as tie
@@ -26,17 +26,8 @@ can c =
 check-rows-requires : tie.Need-check-rows-requires
 check-rows-requires c κs = search needs
 
-slice-aggregate-compose : tie.Need-slice-aggregate-compose
-slice-aggregate-compose c = search needs
-
-compose-requires : tie.Need-compose-requires
-compose-requires c κs = let h = can (c .before .before .before .before) in (h .few, omega arith, h .keyed)
-
-slice-aggregate-deliver : tie.Need-slice-aggregate-deliver
-slice-aggregate-deliver c = search needs
-
 deliver-requires : tie.Need-deliver-requires
-deliver-requires c κs = search needs
+deliver-requires c κs = let h = can (c .before .before .before .before) in (h .few, h .keyed)
 
 same-length : tie.Need-same-length
 same-length c = search needs
@@ -46,28 +37,25 @@ same-length-2 c = search needs
 
 returns : tie.Need-returns
 returns c =
-    let d = c .before .before .before .before .before .before .before .before .before .before .before in
+    let d = c .before .before .before .before .before .before .before in
     let known = d .before .before .before .before .before in
     let file = now (known .before .args .file) in
     let words = length (now (known .before .args .table)) in
     let buffer = now (known .before .args .text) in
     let text = textOf (reading file) words in
     let checked = d .check-rows .ensures in
-    let front = written-front _ _ _ _ (c .before .before .before .before .before .before .compose .ensures .0) ∙ can d .text-is in
+    let is = can d .text-is in
     let done = c .before .before .deliver .ensures in
-    let result = done .0 ∙ (λ n. reportedIn (checked .0 n) (front n) buffer) in
-    let answer = ap (λ (r : Reported). r .checked) (done .0 ∙ (λ n. reportedIn (d .check-rows .result) (front n) buffer)) in
+    let result = done .0 ∙ (λ n. reportedIn (checked .0 n) (is n) buffer) in
+    let answer = ap (λ (r : Reported). r .checked) (done .0 ∙ (λ n. reportedIn (d .check-rows .result) (is n) buffer)) in
     let number = ap (λ r. toldOf (r .answer)) answer ∙ reported-told (d .check-rows .result) (toldFor (verdict (reading file) words)) (fits text buffer) (as-written (reading file) words _ (checked .0)) in
-    (result, (number, (done .1 ∙ ap (λ t. delivered t buffer) front, (checked .1 .1, λ x e a. runs-kept file (bytes known) words _ (reported-accepted (d .check-rows .result) _ (fits text buffer) answer a ∙ checked .0) x e a))))
+    (result, (number, (done .1 ∙ ap (λ t. delivered t buffer) is, (checked .1 .1, λ x e a. runs-kept file (bytes known) words _ (reported-accepted (d .check-rows .result) _ (fits text buffer) answer a ∙ checked .0) x e a))))
 
 pub report-spec : {M : Type 1} → statement M
 report-spec =
     tie.close
     (tie.spec
     check-rows-requires
-    slice-aggregate-compose
-    compose-requires
-    slice-aggregate-deliver
     deliver-requires
     same-length
     same-length-2

@@ -13,22 +13,22 @@ use Rattle.text.proofs.put_bytes.Statement.{statement}
 use Rattle.text.proofs.put_bytes.Tie as tie
 
 abbrev Inv-loop : tie.InvT-loop
-Inv-loop page₀ at s i₀ page i = (i ≤ length s) × (length page ≡ length page₀) × (page ≡ paste page₀ at s i)
+Inv-loop buffer₀ at s i₀ buffer i = (i ≤ length s) × (length buffer ≡ length buffer₀) × (buffer ≡ paste buffer₀ at s i)
 
 abbrev μ-loop : tie.MeasureT-loop
-μ-loop page₀ at s i₀ page i = length s - i
+μ-loop buffer₀ at s i₀ buffer i = length s - i
 
 loop-holds : tie.Need-loop-holds Inv-loop μ-loop
-loop-holds c = (omega arith, refl, paste-zero (now (c .args .page)) (c .args .at) (now (c .args .s)))
+loop-holds c = (omega arith, refl, paste-zero (now (c .args .buffer)) (c .args .at) (now (c .args .s)))
 
-shared-slice-read-page : tie.Need-shared-slice-read-page Inv-loop μ-loop
-shared-slice-read-page c = search needs
+shared-slice-read-buffer : tie.Need-shared-slice-read-buffer Inv-loop μ-loop
+shared-slice-read-buffer c = search needs
 
-add-page : tie.Need-add-page Inv-loop μ-loop
-add-page c = search needs
+add-buffer : tie.Need-add-buffer Inv-loop μ-loop
+add-buffer c = search needs
 
-slice-write-page : tie.Need-slice-write-page Inv-loop μ-loop
-slice-write-page c = omega arith
+slice-write-buffer : tie.Need-slice-write-buffer Inv-loop μ-loop
+slice-write-buffer c = omega arith
 
 add-i : tie.Need-add-i Inv-loop μ-loop
 add-i c = search needs
@@ -42,7 +42,7 @@ loop-again c =
     let a = c .before .before .before .args in (
       omega arith,
       simp length-set (l .inv .1),
-      rw (l .inv .2, add-one) (paste-suc (now (a .page)) (a .at) (now (a .s)) (l .i) 0 (omega arith) (omega arith)),
+      rw (l .inv .2, add-one) (paste-suc (now (a .buffer)) (a .at) (now (a .s)) (l .i) 0 (omega arith) (omega arith)),
     )
 
 add-result : tie.Need-add-result Inv-loop μ-loop
@@ -55,7 +55,7 @@ returns : tie.Need-returns Inv-loop μ-loop
 unfolding placed
 returns c =
     let a = c .before .before .args in
-    let p = now (a .page) in
+    let p = now (a .buffer) in
     let s = now (a .s) in
     let e : c .before .loop .i ≡ length s = omega arith in
     record {
@@ -70,9 +70,9 @@ put-bytes-spec =
     Inv-loop
     μ-loop
     loop-holds
-    shared-slice-read-page
-    add-page
-    slice-write-page
+    shared-slice-read-buffer
+    add-buffer
+    slice-write-buffer
     add-i
     loop-less
     loop-again

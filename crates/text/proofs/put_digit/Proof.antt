@@ -9,14 +9,14 @@ use Rattle.text.specs.Decimal.{digit}
 use Rattle.text.proofs.put_digit.Statement.{statement}
 use Rattle.text.proofs.put_digit.Tie as tie
 
-add-page : tie.Need-add-page
-add-page c = search needs
+add-buffer : tie.Need-add-buffer
+add-buffer c = search needs
 
-cast-page : tie.Need-cast-page
-cast-page c = search needs
+cast-buffer : tie.Need-cast-buffer
+cast-buffer c = search needs
 
-slice-write-page : tie.Need-slice-write-page
-slice-write-page c = search needs
+slice-write-buffer : tie.Need-slice-write-buffer
+slice-write-buffer c = search needs
 
 add-result : tie.Need-add-result
 add-result c = search needs
@@ -27,8 +27,8 @@ same-length c = search needs
 returns : tie.Need-returns
 returns c =
     let a = c .args in
-    record { ended = refl; holds = stored (now (a .page)) (a .at) (digit (a .n) ∷ []) (omega arith) }
+    record { ended = refl; holds = stored (now (a .buffer)) (a .at) (digit (a .n) ∷ []) (omega arith) }
 
 pub put-digit-spec : {M : Type 1} → statement M
 put-digit-spec =
-    tie.close (tie.spec add-page cast-page slice-write-page add-result same-length returns)
+    tie.close (tie.spec add-buffer cast-buffer slice-write-buffer add-result same-length returns)

@@ -1,23 +1,23 @@
 -- `put_labelled` meets its contract. Assumes nothing.
-use native.Mathlib.Omega.{arith}
-use Rattle.text.proofs.Lengths.{decimal-length}
-use Rattle.text.proofs.Writing.{more}
+use Rattle.text.proofs.Writing.{within, room-first, more, room-rest}
 use Rattle.report.specs.Lines.{labelled}
 use borrow.Author.Needs.{needs}
 use Rattle.report.proofs.lines.put_labelled.Statement.{statement}
 use Rattle.report.proofs.lines.put_labelled.Tie as tie
-use Rattle.report.proofs.lines.put_labelled.Reads as reads
-use Rattle.report.proofs.lines.put_labelled.Lts as lts
-use Rattle.text.proofs.put_bytes.Reads as put-bytes-reads
-use Rattle.text.proofs.put_decimal.Reads as put-decimal-reads
 
 put-bytes-requires : tie.Need-put-bytes-requires
-put-bytes-requires c κs = search needs
+unfolding labelled
+put-bytes-requires c κs =
+    let r0 = c .before .before .before .pre in
+    room-first _ _ r0
 
 put-decimal-requires : tie.Need-put-decimal-requires
+unfolding labelled
 put-decimal-requires c κs =
-    let a = c .before .before .before .before .before .before .before in
-    omega (arith, decimal-length 19 (a .args .n) (omega (arith, a .fits .n .fits)), c .before .before .before .put-bytes .ensures .ended)
+    let r0 = c .before .before .before .before .before .before .before .pre in
+    let w0 = c .before .before .before .put-bytes .ensures in
+    let r1 = room-rest _ r0 w0 in
+    r1
 
 same-length : tie.Need-same-length
 same-length c = search needs
@@ -25,10 +25,11 @@ same-length c = search needs
 returns : tie.Need-returns
 unfolding labelled
 returns c =
-    let a = c .before .before .before .before .before .before .before .before .before .before in
-    let label = c .before .before .before .before .before .before .put-bytes .ensures in
-    let number = c .before .before .put-decimal .ensures in
-    (more (omega (arith, a .pre)) label number, omega (arith, decimal-length 19 (a .args .n) (omega (arith, a .fits .n .fits)), label .ended, number .ended))
+    let r0 = c .before .before .before .before .before .before .before .before .before .before .pre in
+    let w0 = c .before .before .before .before .before .before .put-bytes .ensures in
+    let r1 = room-rest _ r0 w0 in
+    let w1 = c .before .before .put-decimal .ensures in
+    more (within r0) w0 w1
 
 pub put-labelled-spec : {M : Type 1} → statement M
 put-labelled-spec =

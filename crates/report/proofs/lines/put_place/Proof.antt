@@ -1,5 +1,4 @@
 -- `put_place` meets its contract: refusal 13 is at a level. Assumes nothing.
-use native.Mathlib.Omega.{arith}
 use borrow.Author.Tests.{eq-eqb, ne-eqb}
 use borrow.Author.Needs.{needs}
 use Rattle.report.proofs.lines.put_place.Statement.{statement}
@@ -9,13 +8,17 @@ slice-aggregate-put-labelled : tie.Need-slice-aggregate-put-labelled
 slice-aggregate-put-labelled c = search needs
 
 put-labelled-requires : tie.Need-put-labelled-requires
-put-labelled-requires c κs = search needs
+put-labelled-requires c κs =
+    let a = c .before .before .before .before in
+    rw (eq-eqb (a .args .number) 13 (c .before .before .if1 .taken)) at (a .pre)
 
 slice-aggregate-put-labelled-2 : tie.Need-slice-aggregate-put-labelled-2
 slice-aggregate-put-labelled-2 c = search needs
 
 put-labelled-requires-2 : tie.Need-put-labelled-requires-2
-put-labelled-requires-2 c κs = search needs
+put-labelled-requires-2 c κs =
+    let a = c .before .before .before .before in
+    rw (ne-eqb (a .args .number) 13 (c .before .before .if1 .left)) at (a .pre)
 
 same-length : tie.Need-same-length
 same-length c = search needs
@@ -24,7 +27,7 @@ returns : tie.Need-returns
 returns c =
     let a = c .before .before .before .before .before .before .before in
     let w = c .before .before .put-labelled in
-    (rw (eq-eqb (a .args .number) 13 (c .before .before .before .before .before .if1 .taken)) (w .ensures .0), omega (arith, w .ensures .1))
+    rw (eq-eqb (a .args .number) 13 (c .before .before .before .before .before .if1 .taken)) (w .ensures)
 
 same-length-2 : tie.Need-same-length-2
 same-length-2 c = search needs
@@ -33,7 +36,7 @@ returns-2 : tie.Need-returns-2
 returns-2 c =
     let a = c .before .before .before .before .before .before .before in
     let w = c .before .before .put-labelled2 in
-    (rw (ne-eqb (a .args .number) 13 (c .before .before .before .before .before .if1 .left)) (w .ensures .0), omega (arith, w .ensures .1))
+    rw (ne-eqb (a .args .number) 13 (c .before .before .before .before .before .if1 .left)) (w .ensures)
 
 pub put-place-spec : {M : Type 1} → statement M
 put-place-spec =

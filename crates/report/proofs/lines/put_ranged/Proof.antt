@@ -1,19 +1,26 @@
 -- `put_ranged` meets its contract. Assumes nothing.
-use native.Mathlib.Omega.{arith}
-use Rattle.text.proofs.Writing.{more}
+use Rattle.text.proofs.Writing.{within, room-first, more, room-rest}
 use Rattle.report.specs.Lines.{ranged}
 use borrow.Author.Needs.{needs}
 use Rattle.report.proofs.lines.put_ranged.Statement.{statement}
 use Rattle.report.proofs.lines.put_ranged.Tie as tie
 
 put-labelled-requires : tie.Need-put-labelled-requires
-put-labelled-requires c κs = search needs
+unfolding ranged
+put-labelled-requires c κs =
+    let r0 = c .before .before .before .pre in
+    room-first _ _ r0
 
 slice-aggregate-put-labelled : tie.Need-slice-aggregate-put-labelled
 slice-aggregate-put-labelled c = search needs
 
 put-labelled-requires-2 : tie.Need-put-labelled-requires-2
-put-labelled-requires-2 c κs = search needs
+unfolding ranged
+put-labelled-requires-2 c κs =
+    let r0 = c .before .before .before .before .before .before .before .before .pre in
+    let w0 = c .before .before .before .before .put-labelled .ensures in
+    let r1 = room-rest _ r0 w0 in
+    r1
 
 same-length : tie.Need-same-length
 same-length c = search needs
@@ -21,12 +28,11 @@ same-length c = search needs
 returns : tie.Need-returns
 unfolding ranged
 returns c =
-    let a = c .before .before .before .before .before .before .before .before .before .before .before in
-    let w0 = c .before .before .before .before .before .before .before .put-labelled in
-    let w1 = c .before .before .put-labelled2 in (
-      more (omega (arith, a .pre)) (w0 .ensures .0) (w1 .ensures .0),
-      omega (arith, a .pre, w0 .ensures .1, w0 .kept .0, w1 .ensures .1, w1 .kept .0),
-    )
+    let r0 = c .before .before .before .before .before .before .before .before .before .before .before .pre in
+    let w0 = c .before .before .before .before .before .before .before .put-labelled .ensures in
+    let r1 = room-rest _ r0 w0 in
+    let w1 = c .before .before .put-labelled2 .ensures in
+    more (within r0) w0 w1
 
 pub put-ranged-spec : {M : Type 1} → statement M
 put-ranged-spec =

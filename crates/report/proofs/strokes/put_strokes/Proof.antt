@@ -1,29 +1,30 @@
 -- `put_strokes` meets its contract: the text so far is the lines of the strokes so far. Assumes nothing.
-use Prim.Native.Nat.{_-_, _*_, _≤_}
+use Prim.Native.Nat.{ℕ, _-_, _≤_}
 use mathlib.Core.Path.{_≡_, refl, _∙_}
+use mathlib.Core.List.{List}
 use native.Mathlib.Omega.{arith}
 use lib.ListN.{length}
+use denote.Ref.{now}
 use borrow.Author.Needs.{needs}
 use Rattle.words.specs.Placed.{placed}
 use Rattle.text.specs.Written.{Written}
-use Rattle.text.proofs.Writing.{more}
+use Rattle.text.proofs.Writing.{more, room-rest}
 use Rattle.report.specs.Lines.{strokeLine, lines}
-use Rattle.report.specs.Room.{lineRoom}
-use Rattle.report.specs.Rows.{strokeIn}
-use Rattle.report.proofs.Series.{lines-next}
+use Rattle.report.specs.Rows.{strokeIn, strokesText}
+use Rattle.report.proofs.Series.{lines-next, lines-room}
 use Rattle.report.proofs.strokes.put_strokes.Statement.{statement}
 use Rattle.report.proofs.strokes.put_strokes.Tie as tie
 
 abbrev Inv-loop : tie.InvT-loop
-Inv-loop page₀ rows k earliest latest best worst at₀ i₀ page at i =
-    (i ≤ k) × Written page₀ 0 (lines (λ j. strokeLine (strokeIn rows earliest latest best worst j)) i) page at × (at ≤ i * lineRoom) × (length page ≡ length page₀)
+Inv-loop buffer₀ rows k earliest latest best worst at₀ i₀ buffer at i =
+    (i ≤ k) × Written buffer₀ 0 (strokesText rows earliest latest best worst i) buffer at × (length buffer ≡ length buffer₀)
 
 abbrev μ-loop : tie.MeasureT-loop
-μ-loop page₀ rows k earliest latest best worst at₀ i₀ page at i = k - i
+μ-loop buffer₀ rows k earliest latest best worst at₀ i₀ buffer at i = k - i
 
 loop-holds : tie.Need-loop-holds Inv-loop μ-loop
 unfolding lines placed
-loop-holds c = (omega arith, record { ended = refl; holds = refl }, omega arith, refl)
+loop-holds c = (omega arith, record { ended = refl; holds = refl }, refl)
 
 stroke-requires : tie.Need-stroke-requires Inv-loop μ-loop
 stroke-requires c κs = omega (arith, c .before .before .before .before .pre .0)
@@ -31,7 +32,10 @@ stroke-requires c κs = omega (arith, c .before .before .before .before .pre .0)
 put-stroke-requires : tie.Need-put-stroke-requires Inv-loop μ-loop
 put-stroke-requires c κs =
     let a = c .before .before .before .before .before in
-    (rw (c .stroke .ensures) (a .pre .2 (c .before .before .before .loop .i) (omega arith)), omega (arith, a .pre .0, a .pre .1))
+    let v = c .before .before .before .loop in
+    let line : ℕ → List ℕ = λ i. strokeLine (strokeIn (now (a .args .rows)) (now (a .args .earliest)) (now (a .args .latest)) (now (a .args .best)) (now (a .args .worst)) i) in
+    let whole = lines-room line (v .i) (a .args .k) (omega arith) (a .pre .2) in
+    (rw (c .stroke .ensures) (a .pre .1 (v .i) (omega arith)), rw (c .stroke .ensures) (room-rest (line (v .i)) whole (v .inv .1)))
 
 add-i : tie.Need-add-i Inv-loop μ-loop
 add-i c = search needs
@@ -43,8 +47,8 @@ loop-again : tie.Need-loop-again Inv-loop μ-loop
 loop-again c =
     let v = c .before .before .before .before .before .before .loop in
     let w = c .before .before .put-stroke in
-    let line = rw (c .before .before .before .stroke .ensures) at (w .ensures .0) in
-    (omega arith, rw lines-next (more (omega arith) (v .inv .1) line), omega (arith, w .ensures .1), w .kept .0 ∙ v .inv .3)
+    let line = rw (c .before .before .before .stroke .ensures) at (w .ensures) in
+    (omega arith, rw lines-next (more (omega arith) (v .inv .1) line), w .kept .0 ∙ v .inv .2)
 
 same-length : tie.Need-same-length Inv-loop μ-loop
 same-length c = search needs
@@ -53,7 +57,7 @@ returns : tie.Need-returns Inv-loop μ-loop
 returns c =
     let v = c .before .loop in
     let e : v .i ≡ c .before .before .before .args .k = omega arith in
-    (rw e at (v .inv .1), rw e at (v .inv .2))
+    rw e at (v .inv .1)
 
 pub put-strokes-spec : {M : Type 1} → statement M
 put-strokes-spec =

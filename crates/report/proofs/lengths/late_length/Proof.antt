@@ -1,0 +1,44 @@
+-- `late_length` meets its contract. Assumes nothing.
+use native.Mathlib.Omega.{arith}
+use Rattle.report.proofs.LineLengths.{late-length}
+use borrow.Author.Needs.{needs}
+use Rattle.report.proofs.lengths.late_length.Statement.{statement}
+use Rattle.report.proofs.lengths.late_length.Tie as tie
+
+digits-requires : tie.Need-digits-requires
+digits-requires c κs = search needs
+
+add-result : tie.Need-add-result
+add-result c = search needs
+
+digits-requires-2 : tie.Need-digits-requires-2
+digits-requires-2 c κs = search needs
+
+add-result-2 : tie.Need-add-result-2
+add-result-2 c = search needs
+
+digits-requires-3 : tie.Need-digits-requires-3
+digits-requires-3 c κs = search needs
+
+add-result-3 : tie.Need-add-result-3
+add-result-3 c = search needs
+
+returns : tie.Need-returns
+returns c =
+    let a = c .before .before .before .args in
+    let w0 = c .before .before .digits .ensures in
+    let w1 = c .before .digits2 .ensures in
+    let w2 = c .digits3 .ensures in
+    (omega (arith, late-length (a .job) (a .earliest) (a .latest), w0 .0, w1 .0, w2 .0), omega (arith, w0 .1, w1 .1, w2 .1))
+
+pub late-length-spec : {M : Type 1} → statement M
+late-length-spec =
+    tie.close
+    (tie.spec
+    digits-requires
+    add-result
+    digits-requires-2
+    add-result-2
+    digits-requires-3
+    add-result-3
+    returns)

@@ -1,0 +1,15 @@
+-- How long the texts of a report can be, whatever their numbers of 64 bits are. Assumes nothing.
+use Prim.Native.Nat.{ℕ, _+_, _*_}
+use Rattle.model.specs.Limits.{mostJobs}
+
+-- a stroke's line: 44 fixed bytes, seven numbers, and a key of 32 bits
+abbrev pub longestStroke : ℕ
+longestStroke = 195
+
+-- a last or only line: of these the one that accepts is the longest, with 32 fixed bytes and three numbers
+abbrev pub longestLast : ℕ
+longestLast = 92
+
+-- a line of every stroke and the last
+abbrev pub longestText : ℕ
+longestText = mostJobs * longestStroke + longestLast
