@@ -17,8 +17,9 @@
 #include <unistd.h>
 
 #include "phrase.h"
+#include "files.h"
 
-enum { GUARD = 256, SHOWN_FAILURES = 20, MOST_FILE = 2048, MOST_WORDS = 17000, MOST_TEXT = 40000 };
+enum { GUARD = 256, SHOWN_FAILURES = 20, MOST_WORDS = 17000, MOST_TEXT = 40000 };
 
 /* What is being tried, for the lines that name a failure. */
 static char trial[256];
@@ -147,12 +148,6 @@ static void protect_file(int rights)
 }
 
 /* ---- One trial ---- */
-
-struct file {
-    const char *name;
-    uint8_t bytes[MOST_FILE];
-    size_t size;
-};
 
 /* What document 01 says of a file in a table of so many words. */
 struct outcome {
@@ -291,80 +286,8 @@ static void try_outcome(const struct file *file, const struct outcome *outcome)
     }
 }
 
-/* ---- Files ---- */
-
-static void add_byte(struct file *file, unsigned byte)
-{
-    if (file->size == MOST_FILE)
-        stop("a file is too long for this test");
-    file->bytes[file->size++] = (uint8_t)byte;
-}
-
-/* Reads pairs of hexadecimal digits; blanks are free. */
-static struct file from_hex(const char *name, const char *hex)
-{
-    struct file file;
-    unsigned byte;
-    int read;
-    file.name = name;
-    file.size = 0;
-    while (sscanf(hex, " %2x%n", &byte, &read) == 1) {
-        add_byte(&file, byte);
-        hex += read;
-    }
-    return file;
-}
-
-static void add_number(struct file *file, unsigned long number, int bytes)
-{
-    while (bytes-- > 0)
-        add_byte(file, (unsigned)(number >> (8 * bytes)) & 0xFF);
-}
-
-static void add_bell(struct file *file, unsigned key, unsigned shortest, unsigned longest, unsigned rank)
-{
-    add_byte(file, key);
-    add_byte(file, 0);
-    add_number(file, shortest, 2);
-    add_number(file, longest, 2);
-    add_byte(file, rank);
-}
-
-/* A note that waits for none but its bell's last. */
-static void add_note(struct file *file, unsigned key, unsigned long earliest, unsigned long latest, unsigned long due)
-{
-    add_byte(file, 13);
-    add_byte(file, key);
-    add_number(file, earliest, 4);
-    add_number(file, latest, 4);
-    add_number(file, due, 4);
-}
-
-static struct file begin(const char *name, unsigned drivers, unsigned bells)
-{
-    struct file file;
-    file.name = name;
-    file.size = 0;
-    add_byte(&file, 1);
-    add_number(&file, 0, 4);
-    add_byte(&file, drivers);
-    add_byte(&file, bells);
-    return file;
-}
-
-/* Writes the count of what follows it. */
-static void finish(struct file *file)
-{
-    size_t size = file->size;
-    file->size = 1;
-    add_number(file, size - 5, 4);
-    file->size = size;
-}
-
 /* ---- What document 01 prints ---- */
 
-#define P "01 0000002D 01 02 3C0000020002 01 3E0C00040004 02 02 0D 3C 00000000 00000005 00000007 0D 4A 00000000 00000000 00000006"
-#define UNCHANGED 0, 0x01 /* byte 0 is 01 already */
 #define HOUR "0036EE80"   /* 3600000 */
 
 #define P_TEXT                                               \
@@ -400,9 +323,7 @@ static const struct {
     {"P, a note is missing", P, 21, 0x03, 3, 50, "refused 3 at 50\n"},
     {"row 10", P, 37, 0x3E, 10, 36, "refused 10 at 36\n"},
     {"row 11", P, 27, 0x06, 11, 22, "refused 11 at 22\n"},
-    {"row 12",
-     "01 0000002E 01 02 3C0000020002 01 3E0C00040004 02 02 0D 3C 00000000 00000005 00000007 0E 4A 00000000 00000000 00000006 01",
-     UNCHANGED, 12, 36, "refused 12 at 36\n"},
+    {"row 12", P_WAITING, UNCHANGED, 12, 36, "refused 12 at 36\n"},
 };
 
 #define M1 "01 0000002D 01 02 3C00 0001 0002 01 3E00 0003 0003 02 02 0D 3C 00000000 00000000" HOUR "0D 3E 00000000 00000000" HOUR

@@ -1,0 +1,114 @@
+/*
+ * How the C tests make phrase files: from hexadecimal digits, or field by field.
+ */
+#ifndef FILES_H
+#define FILES_H
+
+#include <stdint.h>
+#include <stdio.h>
+#include <stdlib.h>
+
+enum { MOST_FILE = 2048 };
+
+struct file {
+    const char *name;
+    uint8_t bytes[MOST_FILE];
+    size_t size;
+};
+
+/* Document 01's phrase P, and P with a note that waits for itself. */
+#define P "01 0000002D 01 02 3C0000020002 01 3E0C00040004 02 02 0D 3C 00000000 00000005 00000007 0D 4A 00000000 00000000 00000006"
+#define P_WAITING "01 0000002E 01 02 3C0000020002 01 3E0C00040004 02 02 0D 3C 00000000 00000005 00000007 0E 4A 00000000 00000000 00000006 01"
+#define UNCHANGED 0, 0x01 /* place and byte, where one is changed: byte 0 is 01 already */
+
+static inline void add_byte(struct file *file, unsigned byte)
+{
+    if (file->size == MOST_FILE) {
+        fprintf(stderr, "%s: too long for this test\n", file->name);
+        exit(2);
+    }
+    file->bytes[file->size++] = (uint8_t)byte;
+}
+
+/* Reads pairs of hexadecimal digits; blanks are free. */
+static inline struct file from_hex(const char *name, const char *hex)
+{
+    struct file file;
+    unsigned byte;
+    int read;
+    file.name = name;
+    file.size = 0;
+    while (sscanf(hex, " %2x%n", &byte, &read) == 1) {
+        add_byte(&file, byte);
+        hex += read;
+    }
+    return file;
+}
+
+static inline void add_number(struct file *file, unsigned long number, int bytes)
+{
+    while (bytes-- > 0)
+        add_byte(file, (unsigned)(number >> (8 * bytes)) & 0xFF);
+}
+
+static inline void add_bell(struct file *file, unsigned key, unsigned shortest, unsigned longest, unsigned rank)
+{
+    add_byte(file, key);
+    add_byte(file, 0);
+    add_number(file, shortest, 2);
+    add_number(file, longest, 2);
+    add_byte(file, rank);
+}
+
+/* A note that waits for none but its bell's last. */
+static inline void add_note(struct file *file, unsigned key, unsigned long earliest, unsigned long latest, unsigned long due)
+{
+    add_byte(file, 13);
+    add_byte(file, key);
+    add_number(file, earliest, 4);
+    add_number(file, latest, 4);
+    add_number(file, due, 4);
+}
+
+static inline struct file begin(const char *name, unsigned drivers, unsigned bells)
+{
+    struct file file;
+    file.name = name;
+    file.size = 0;
+    add_byte(&file, 1);
+    add_number(&file, 0, 4);
+    add_byte(&file, drivers);
+    add_byte(&file, bells);
+    return file;
+}
+
+/* Writes the count of what follows it. */
+static inline void finish(struct file *file)
+{
+    size_t size = file->size;
+    file->size = 1;
+    add_number(file, size - 5, 4);
+    file->size = size;
+}
+
+/*
+ * 62 strokes on one driver and three bells, 44, 15 and 3 of them, that may go in any order but for those of one bell. So there is one state for each choice
+ * of how many strokes of each bell have started: 45 * 16 * 4 = 2880 in all, and at most 16 * 4 = 64 in a level, first in level 18. W = 128, so 16,384 words
+ * have room for just these 64.
+ */
+static inline struct file crowded(void)
+{
+    static const unsigned notes[] = {44, 15, 3};
+    struct file file = begin("three crowded bells", 1, 3);
+    unsigned bell, note;
+    for (bell = 0; bell < 3; bell++)
+        add_bell(&file, 60 + bell, 1, 1, 1);
+    add_byte(&file, 62);
+    for (bell = 0; bell < 3; bell++)
+        for (note = 0; note < notes[bell]; note++)
+            add_note(&file, 60 + bell, 0, 1000, 3600000);
+    finish(&file);
+    return file;
+}
+
+#endif
