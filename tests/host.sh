@@ -1,7 +1,8 @@
 #!/usr/bin/env bash
 # Builds the C side over the proved library and runs it: host/player.c on files good and bad, tests/host/buffers.c on buffers of all kinds, both plainly,
 # with gcc's sanitizers and under valgrind, where these are there; tests/host/threads.c; and the header from C++ where g++ is. PHRASE_LIB names another
-# library than target/staticlib/libphrase.a, which `rt staticlib phrase` writes; LDLIBS adds to what is linked.
+# library than target/staticlib/libphrase.a, which `rt staticlib phrase` writes; LDLIBS adds to what is linked. What is left out for want of a tool is said,
+# and also appended to the file that LEFT_OUT names, a line each.
 set -euo pipefail
 cd "$(dirname "$0")/.."
 library=$(realpath -m "${PHRASE_LIB:-target/staticlib/libphrase.a}")
@@ -14,6 +15,14 @@ trap 'rm -rf "$folder"' EXIT
 read -ra libraries <<<"${LDLIBS:-}"
 checks=0
 failed=0
+
+# left_out WHAT WHY: notes what is not tried here.
+left_out() {
+  echo "tests/host.sh: note: $2"
+  if [ -n "${LEFT_OUT:-}" ]; then
+    echo "$1" >>"$LEFT_OUT"
+  fi
+}
 
 # verdict NAME STATUS [LOG]: counts a check; a status other than 0 fails it, and then the log is shown.
 verdict() {
@@ -141,7 +150,7 @@ if gcc "${sanitized[@]}" "$folder/none.c" -o "$folder/none" >"$folder/log" 2>&1 
     passes 'buffers with sanitizers' "$folder/buffers-sanitized" || true
   fi
 else
-  echo 'tests/host.sh: note: gcc has no sanitizers here'
+  left_out 'the C tests with sanitizers' 'gcc has no sanitizers here'
 fi
 
 # ---- Under valgrind, which watches the library too ----
@@ -161,7 +170,7 @@ if command -v valgrind >/dev/null; then
     passes 'buffers under valgrind' "${grind[@]}" "$folder/buffers" || true
   fi
 else
-  echo 'tests/host.sh: note: there is no valgrind here'
+  left_out 'the C tests under valgrind' 'there is no valgrind here'
 fi
 
 # ---- The header from C++ ----
@@ -187,7 +196,7 @@ END
     passes 'the four calls from C++' "$folder/host" || true
   fi
 else
-  echo 'tests/host.sh: note: there is no g++ here'
+  left_out 'the header from C++' 'there is no g++ here'
 fi
 
 if [ "$failed" -ne 0 ]; then
