@@ -1,8 +1,9 @@
 #!/usr/bin/env bash
-# Builds the C side over the proved library and runs it: host/player.c on files good and bad, tests/host/buffers.c on buffers of all kinds, both plainly,
-# with gcc's sanitizers and under valgrind, where these are there; tests/host/threads.c; and the header from C++ where g++ is. PHRASE_LIB names another
-# library than target/staticlib/libphrase.a, which `rt staticlib phrase` writes; LDLIBS adds to what is linked. What is left out for want of a tool is said,
-# and also appended to the file that LEFT_OUT names, a line each.
+# Builds the C side over the proved library and runs it: host/player.c on files good and bad, tests/host/buffers.c on buffers of all kinds, and
+# tests/host/names.c, which provokes every name of the header, all three plainly, with gcc's sanitizers and under valgrind, where these are there;
+# tests/host/threads.c; wrong headers; and the header from C++ where g++ is. PHRASE_LIB names another library than
+# target/staticlib/libphrase.a, which `rt staticlib phrase` writes; LDLIBS adds to what is linked. What is left out for want of a tool is said, and also
+# appended to the file that LEFT_OUT names, a line each.
 set -euo pipefail
 cd "$(dirname "$0")/.."
 library=$(realpath -m "${PHRASE_LIB:-target/staticlib/libphrase.a}")
@@ -121,14 +122,33 @@ if build 'host/player.c builds' host/player.c "$folder/player" -O2; then
   "$folder/player" "$p" >/dev/full 2>/dev/null || status=$?
   verdict "player with a full device as its output: exit status $status, not 2" $((status != 2))
 fi
-if build 'tests/host/buffers.c builds' tests/host/buffers.c "$folder/buffers" -O2; then
-  passes 'buffers' "$folder/buffers" || true
-  counted=$(sed -n 's/^buffers: \([0-9]*\) checks passed$/\1/p' "$folder/log")
-fi
+counted=0
+for test in buffers names; do
+  if build "tests/host/$test.c builds" "tests/host/$test.c" "$folder/$test" -O2; then
+    passes "$test" "$folder/$test" || true
+    found=$(sed -n "s/^$test: \([0-9]*\) checks passed\$/\1/p" "$folder/log")
+    counted=$((counted + ${found:-0}))
+  fi
+done
 
 if build 'tests/host/threads.c builds' tests/host/threads.c "$folder/threads" -O2 -pthread; then
   passes 'threads' "$folder/threads" || true
 fi
+
+# ---- Wrong headers: names.c has to see each number that is one more ----
+
+mkdir "$folder/wrong"
+names=0
+while read -r name number; do
+  names=$((names + 1))
+  sed -E "s/\\b($name( =)?) $number\\b/\\1 $((number + 1))/" host/phrase.h >"$folder/wrong/phrase.h"
+  status=0
+  if gcc -std=c99 -I "$folder/wrong" tests/host/names.c "$library" "${libraries[@]}" -o "$folder/wrong/names" >"$folder/log" 2>&1; then
+    "$folder/wrong/names" >"$folder/log" 2>&1 || status=$?
+  fi
+  verdict "a header with $name $((number + 1)) is seen by names.c: exit status $status, not 1" $((status != 1)) "$folder/log"
+done < <(sed -nE 's/^(#define|   ) (PHRASE_[A-Z_]+)( =)? ([0-9]+).*/\2 \4/p' host/phrase.h)
+verdict "the header has $names names with numbers, not 18" $((names != 18))
 
 # ---- The Makefile ----
 
@@ -146,9 +166,11 @@ if gcc "${sanitized[@]}" "$folder/none.c" -o "$folder/none" >"$folder/log" 2>&1 
     player=("$folder/player-sanitized")
     play_all sanitized
   fi
-  if build 'tests/host/buffers.c builds with sanitizers' tests/host/buffers.c "$folder/buffers-sanitized" "${sanitized[@]}"; then
-    passes 'buffers with sanitizers' "$folder/buffers-sanitized" || true
-  fi
+  for test in buffers names; do
+    if build "tests/host/$test.c builds with sanitizers" "tests/host/$test.c" "$folder/$test-sanitized" "${sanitized[@]}"; then
+      passes "$test with sanitizers" "$folder/$test-sanitized" || true
+    fi
+  done
 else
   left_out 'the C tests with sanitizers' 'gcc has no sanitizers here'
 fi
@@ -166,9 +188,11 @@ if command -v valgrind >/dev/null; then
     plays valgrind 1 'refused 2 at 0\n' "player: $folder/empty: refused, number 2, byte 0\n" "$folder/empty" 0
     plays valgrind 2 '' "player: $folder: Is a directory\n" "$folder"
   fi
-  if [ -x "$folder/buffers" ]; then
-    passes 'buffers under valgrind' "${grind[@]}" "$folder/buffers" || true
-  fi
+  for test in buffers names; do
+    if [ -x "$folder/$test" ]; then
+      passes "$test under valgrind" "${grind[@]}" "$folder/$test" || true
+    fi
+  done
 else
   left_out 'the C tests under valgrind' 'there is no valgrind here'
 fi

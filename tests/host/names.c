@@ -1,0 +1,151 @@
+/*
+ * Provokes every name of host/phrase.h by the calls, and holds it to the number that document 01 gives: each refusal by document 01's example of it, the
+ * table's words by a phrase that needs all of them, the text's bytes by a long text. So a header with another number is seen.
+ *
+ * Prints one line for each failure and a count; exit status 0 when nothing failed.
+ */
+#include <string.h>
+
+#include "phrase.h"
+#include "files.h"
+
+static unsigned long checks, failures;
+
+static void expect(const char *about, const char *what, uint64_t found, uint64_t due)
+{
+    checks++;
+    if (found == due)
+        return;
+    failures++;
+    printf("names: FAILED: %s: %s is %llu, not %llu\n", about, what, (unsigned long long)found, (unsigned long long)due);
+}
+
+/* ---- What checks answer ---- */
+
+#define NAMED(name) #name, name
+#define NOT_SHOWN                                                                                                                          \
+    "01 0000003B 01 02 3C0000010002 01 3E0000030003 02 03 0D 3C 00000000 00000000 00000002 0D 3C 00000000 00000000 00000004 0D 3E 00000001" \
+    "00000001 00000007"
+enum { OWN = 0 }; /* words of a table: that of phrase_check */
+
+/* Document 01's examples: a file, P with a byte changed mostly; the words of the table; number and place. */
+static const struct {
+    const char *name;
+    enum phrase_number named;
+    const char *hex;
+    size_t at;
+    uint8_t byte;
+    size_t words;
+    uint32_t number, place;
+} answers[] = {
+    {NAMED(PHRASE_ACCEPTED), P, UNCHANGED, OWN, 0, 0},
+    {NAMED(PHRASE_VERSION), "09", 0, 0x09, OWN, 1, 0},
+    {NAMED(PHRASE_COUNT), "01 00 00", UNCHANGED, OWN, 2, 0},
+    {NAMED(PHRASE_END), "01 00000001 01", UNCHANGED, OWN, 3, 6},
+    {NAMED(PHRASE_DRIVERS), "01 00000001 00", UNCHANGED, OWN, 4, 5},
+    {NAMED(PHRASE_BELLS), "01 00000002 01 00", UNCHANGED, OWN, 5, 6},
+    {NAMED(PHRASE_BELL_FIELD), P, 7, 0x0B, OWN, 6, 7},
+    {NAMED(PHRASE_SAME_KEY), P, 15, 0xFE, OWN, 7, 14},
+    {NAMED(PHRASE_STROKES), P, 21, 0x41, OWN, 8, 21},
+    {NAMED(PHRASE_NOTE_LENGTH), P, 22, 0x0C, OWN, 9, 22},
+    {NAMED(PHRASE_NO_BELL), P, 37, 0x3E, OWN, 10, 36},
+    {NAMED(PHRASE_TIMES), P, 27, 0x06, OWN, 11, 22},
+    {NAMED(PHRASE_WAITS), P_WAITING, UNCHANGED, OWN, 12, 36},
+    {NAMED(PHRASE_TABLE_FULL), P, UNCHANGED, 31, 13, 1},
+    {NAMED(PHRASE_LATE), P, 35, 0x06, OWN, 14, 0},
+    /* docs/FORMAT.md's phrase that is on time in all of its runs, with and without the bound of stroke 1, which is 6, in time. */
+    {NAMED(PHRASE_LATE), NOT_SHOWN, UNCHANGED, OWN, 14, 1},
+    {NAMED(PHRASE_LATE), NOT_SHOWN, 49, 0x05, OWN, 14, 1},
+    {NAMED(PHRASE_ACCEPTED), NOT_SHOWN, 49, 0x06, OWN, 0, 0},
+};
+
+static void try_answers(void)
+{
+    size_t i;
+    for (i = 0; i < sizeof answers / sizeof *answers; i++) {
+        struct file file = from_hex(answers[i].name, answers[i].hex);
+        uint32_t table[31];
+        uint64_t answer;
+        file.bytes[answers[i].at] = answers[i].byte;
+        answer = answers[i].words == OWN ? phrase_check(file.bytes, file.size) : phrase_check_with(file.bytes, file.size, table, answers[i].words);
+        expect(file.name, "the name", answers[i].named, answers[i].number);
+        expect(file.name, "the refusal", phrase_refusal(answer), answers[i].named);
+        expect(file.name, "its place", phrase_place(answer), answers[i].place);
+    }
+}
+
+/* ---- A text that does not fit ---- */
+
+/* The number of a report, as a host that keeps document 01's numbers has it. */
+static enum phrase_number report_number(uint64_t answer, size_t length)
+{
+    return length == 0 ? PHRASE_TEXT_SHORT : (enum phrase_number)phrase_refusal(answer);
+}
+
+static void try_text_short(void)
+{
+    struct file p = from_hex("PHRASE_TEXT_SHORT", P);
+    uint64_t answer = phrase_check(p.bytes, p.size);
+    uint32_t table[32];
+    uint8_t text[141];
+    expect(p.name, "the number of P in 10 bytes", report_number(answer, phrase_report(p.bytes, p.size, text, 10)), 15);
+    expect(p.name, "the same with a lent table", report_number(answer, phrase_report_with(p.bytes, p.size, table, 32, text, 10)), 15);
+    expect(p.name, "the number of P in 140 bytes", report_number(answer, phrase_report(p.bytes, p.size, text, 140)), 15);
+    expect(p.name, "the number of P in 141 bytes", report_number(answer, phrase_report(p.bytes, p.size, text, 141)), 0);
+}
+
+/* ---- The two lengths ---- */
+
+static uint32_t table[PHRASE_TABLE_WORDS];
+static uint8_t text[PHRASE_TEXT_BYTES];
+
+static int ends_with(size_t length, const char *end)
+{
+    size_t size = strlen(end);
+    return length >= size && memcmp(text + length - size, end, size) == 0;
+}
+
+/* A phrase that needs every word of the table. */
+static void try_table_words(void)
+{
+    static const char accepted[] = "\naccepted strokes 62 states 2880 hold 62\n", full[] = "refused 13 level 18\n"; /* files.h has the sum */
+    const char *about = "PHRASE_TABLE_WORDS";
+    struct file file = crowded();
+    uint64_t answer;
+    size_t length;
+
+    expect(about, "the name", PHRASE_TABLE_WORDS, 16384);
+    expect(about, "the answer in the call's own table", phrase_check(file.bytes, file.size), PHRASE_ACCEPTED);
+    expect(about, "the answer in so many words", phrase_check_with(file.bytes, file.size, table, PHRASE_TABLE_WORDS), PHRASE_ACCEPTED);
+    answer = phrase_check_with(file.bytes, file.size, table, PHRASE_TABLE_WORDS - 1);
+    expect(about, "the refusal in one word less", phrase_refusal(answer), PHRASE_TABLE_FULL);
+    expect(about, "its level", phrase_place(answer), 18);
+
+    length = phrase_report(file.bytes, file.size, text, sizeof text);
+    expect(about, "the text's end in the call's own table", (uint64_t)ends_with(length, accepted), 1);
+    length = phrase_report_with(file.bytes, file.size, table, PHRASE_TABLE_WORDS, text, sizeof text);
+    expect(about, "the text's end in so many words", (uint64_t)ends_with(length, accepted), 1);
+    length = phrase_report_with(file.bytes, file.size, table, PHRASE_TABLE_WORDS - 1, text, sizeof text);
+    expect(about, "the text in one word less", length == sizeof full - 1 && memcmp(text, full, length) == 0, 1);
+}
+
+static void try_text_bytes(void)
+{
+    const char *about = "PHRASE_TEXT_BYTES";
+    struct file file = crowded();
+    expect(about, "the name", PHRASE_TEXT_BYTES, 32768);
+    expect(about, "a text of 63 lines fits", phrase_report(file.bytes, file.size, text, PHRASE_TEXT_BYTES) != 0, 1);
+}
+
+int main(void)
+{
+    try_answers();
+    try_text_short();
+    try_table_words();
+    try_text_bytes();
+    if (failures == 0)
+        printf("names: %lu checks passed\n", checks);
+    else
+        printf("names: %lu of %lu checks failed\n", failures, checks);
+    return failures != 0;
+}
