@@ -1,7 +1,7 @@
 #!/usr/bin/env bash
 # Builds the C side over the proved library and runs it: host/player.c on files good and bad, tests/host/buffers.c on buffers of all kinds, and
 # tests/host/names.c, which provokes every name of the header, all three plainly, with gcc's sanitizers and under valgrind, where these are there;
-# tests/host/threads.c; wrong headers; and the header from C++ where g++ is. PHRASE_LIB names another library than
+# tests/host/threads.c; tests/host/stack.c, which measures the stack; wrong headers; and the header from C++ where g++ is. PHRASE_LIB names another library than
 # target/staticlib/libphrase.a, which `rt staticlib phrase` writes; LDLIBS adds to what is linked. What is left out for want of a tool is said, and also
 # appended to the file that LEFT_OUT names, a line each.
 set -euo pipefail
@@ -134,6 +134,30 @@ done
 if build 'tests/host/threads.c builds' tests/host/threads.c "$folder/threads" -O2 -pthread; then
   passes 'threads' "$folder/threads" || true
 fi
+
+# ---- The stack, with memcpy and memset bound at the start and at the first call ----
+
+# strokes BELLS: 64 strokes on 8 drivers. Those of one bell are accepted and have a long text; those of eight need a larger table.
+strokes() {
+  local key note
+  printf '\x01\x00\x00\x03\xBB\x08\x08'
+  for key in 3C 3D 3E 3F 40 41 42 43; do
+    printf '%b' "\\x$key\\x00\\x00\\x01\\x00\\x02\\x01"
+  done
+  printf '\x40'
+  for note in {0..63}; do
+    printf '%b' "\\x0D\\x$(printf '%02X' $((60 + note % $1)))\\x00\\x00\\x00\\x00\\x00\\x00\\x03\\xE8\\x00\\x36\\xEE\\x80"
+  done
+}
+strokes 1 >"$folder/one-bell"
+strokes 8 >"$folder/eight-bells"
+for binding in now lazy; do
+  if build "tests/host/stack.c builds, $binding" tests/host/stack.c "$folder/stack-$binding" -O2 -pthread "-Wl,-z,$binding"; then
+    passes "the stack, $binding" env -u LD_BIND_NOW "$folder/stack-$binding" "$binding" \
+      examples/*.phrase "$folder"/{late,bell,empty,one-bell,eight-bells} || true
+    grep '^stack: .* KiB$' "$folder/log" || true
+  fi
+done
 
 # ---- Wrong headers: names.c has to see each number that is one more ----
 
