@@ -3,7 +3,7 @@
  *
  * A phrase file comes in; a verdict, and a text with bounds for each stroke, go out. docs/FORMAT.md describes the file and its refusals.
  *
- *     rt staticlib phrase                                       proves the library and writes target/staticlib/libphrase.a (x86-64)
+ *     rt staticlib phrase                                       proves the library and writes target/staticlib/libphrase.a, for x86-64 Linux only
  *     gcc -I host your.c target/staticlib/libphrase.a -o your   links it
  *
  * What holds of every call:
@@ -19,6 +19,10 @@
  */
 #ifndef PHRASE_H
 #define PHRASE_H
+
+#if !defined(__x86_64__) && !defined(_M_X64)
+#error "libphrase.a is for x86-64 only"
+#endif
 
 #include <stddef.h>
 #include <stdint.h>

@@ -159,7 +159,7 @@ for binding in now lazy; do
   fi
 done
 
-# ---- Wrong headers: names.c has to see each number that is one more ----
+# ---- Wrong headers: names.c has to see each number that is one more, and no other processor gets the header ----
 
 mkdir "$folder/wrong"
 names=0
@@ -173,6 +173,12 @@ while read -r name number; do
   verdict "a header with $name $((number + 1)) is seen by names.c: exit status $status, not 1" $((status != 1)) "$folder/log"
 done < <(sed -nE 's/^(#define|   ) (PHRASE_[A-Z_]+)( =)? ([0-9]+).*/\2 \4/p' host/phrase.h)
 verdict "the header has $names names with numbers, not 18" $((names != 18))
+
+echo '#include "phrase.h"' >"$folder/other.c"
+status=0
+gcc -std=c99 -U__x86_64__ -I host -fsyntax-only "$folder/other.c" >"$folder/log" 2>&1 && status=1
+grep -q '#error "libphrase.a is for x86-64 only"' "$folder/log" || status=1
+verdict 'the header refuses other processors' "$status" "$folder/log"
 
 # ---- The Makefile ----
 
