@@ -10,7 +10,8 @@
  *
  * - Any file bytes, any table and any length of text are fine; no call fails, allocates or keeps anything.
  * - file, table and text must not be NULL, even with length 0, and must not overlap. A table starts where a uint32_t may start; file and text may
- *   start anywhere. Nothing may write them while the call runs.
+ *   start anywhere. Nothing else may write them while the call runs. An empty C++ vector's data() may be NULL: pass the address of any byte (of any uint32_t
+ *   for a table) and length 0 instead.
  * - file is only read. Nothing before a buffer's start or past its length is read or written.
  * - There is no state between calls and none is shared, so calls may run at the same time, on different tables and texts.
  * - A stack of 128 KiB suffices. Measured by tests/host/stack.c, as the part of a painted stack that the call changed, and no more for any phrase that was
@@ -37,10 +38,16 @@ extern "C" {
 /* A text buffer of so many bytes always suffices: no text, whatever the table, is longer than 5,554 bytes. */
 #define PHRASE_TEXT_BYTES 32768
 
-/* Why a phrase is refused. docs/FORMAT.md says in which order the rules are tried; the first that is broken is the answer. */
+/*
+ * Why a phrase is refused. docs/FORMAT.md says in which order the conditions are tried; the first that is met is the answer.
+ *
+ * PHRASE_ACCEPTED is proved: every stroke ends by its due time in every run. PHRASE_LATE says that this was not shown, not that some run is late: the bounds
+ * are safe, and a run need not reach them. The ends in its line of the text are those of the first late start that was met, not the worst.
+ * PHRASE_TABLE_FULL says nothing about the phrase: with a larger table it may be accepted, or be refused with PHRASE_LATE. README.md has a loop that lends more.
+ */
 enum phrase_number {
     PHRASE_ACCEPTED = 0,
-    PHRASE_VERSION = 1,      /* not version 1;                                       place: 0 */
+    PHRASE_VERSION = 1,      /* not empty, and not version 1;                        place: 0 */
     PHRASE_COUNT = 2,        /* under 5 bytes, or the count of bytes is wrong;       place: 0 */
     PHRASE_END = 3,          /* a field or record passes the end, or bytes remain;   place: its first byte, or the first that remains */
     PHRASE_DRIVERS = 4,      /* not 1 to 8 drivers;                                  place: 5 */
@@ -50,10 +57,10 @@ enum phrase_number {
     PHRASE_STROKES = 8,      /* over 64 strokes;                                     place: the byte that says so */
     PHRASE_NOTE_LENGTH = 9,  /* a note's length is not 13 to 17;                     place: the note's first byte */
     PHRASE_NO_BELL = 10,     /* no bell sounds for the key;                          place: the note's first byte */
-    PHRASE_TIMES = 11,       /* call or due times are wrong;                         place: the note's first byte */
+    PHRASE_TIMES = 11,       /* ra is over rb, or rb or d is over 3600000;           place: the note's first byte */
     PHRASE_WAITS = 12,       /* waits do not rise, or are not below the note's own;  place: the note's first byte */
     PHRASE_TABLE_FULL = 13,  /* a level has more states than the table has room for; place: the level */
-    PHRASE_LATE = 14,        /* a stroke may end after its due time;                 place: the stroke */
+    PHRASE_LATE = 14,        /* a stroke was not shown to end by its due time;       place: the stroke */
     PHRASE_TEXT_SHORT = 15   /* the text is longer than its buffer: a report's length is 0. No check answers with it */
 };
 
@@ -73,7 +80,7 @@ size_t phrase_report(const uint8_t *file, size_t file_len, uint8_t *text, size_t
 /*
  * phrase_check with a lent table of table_len words, which may hold anything.
  * The phrase has m drivers and K strokes: W = 2 + 2 m + 2 K, and S = table_len / (2 W), rounded down, is how many states a level may have. Afterwards the
- * first 2 S W words may hold anything; the others are unchanged. No word changes when the number is below PHRASE_TABLE_FULL and the phrase is refused.
+ * first 2 S W words may hold anything; the others are unchanged. For refusals 1 to 12 no word changes.
  */
 uint64_t phrase_check_with(const uint8_t *file, size_t file_len, uint32_t *table, size_t table_len);
 

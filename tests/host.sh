@@ -231,6 +231,8 @@ fi
 
 if command -v g++ >/dev/null; then
   cat >"$folder/host.cpp" <<'END'
+#include <vector>
+
 #include "phrase.h"
 
 int main()
@@ -242,7 +244,9 @@ int main()
     bool refused = phrase_refusal(answer) == PHRASE_DRIVERS && phrase_place(answer) == 5;
     bool same = phrase_check_with(file, sizeof file, table, 4) == answer;
     bool written = phrase_report(file, sizeof file, text, 15) == 15 && phrase_report_with(file, sizeof file, table, 4, text, 14) == 0;
-    return refused && same && written ? 0 : 1;
+    const std::vector<uint8_t> none;
+    bool empty = phrase_check(none.empty() ? file : none.data(), none.size()) == PHRASE_COUNT * UINT64_C(4294967296);
+    return refused && same && written && empty ? 0 : 1;
 }
 END
   if passes 'phrase.h builds as C++' g++ -std=c++11 -Wall -Wextra -Wpedantic -Werror -I host "$folder/host.cpp" "$library" "${libraries[@]}" \
