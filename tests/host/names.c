@@ -74,6 +74,21 @@ static void try_answers(void)
     }
 }
 
+/* ---- An answer taken apart ---- */
+
+/* Places over 255, too: the last of 62 notes has a key for which no bell sounds. 7 + 3 * 7 + 1 bytes and 61 notes of 14 come before it. */
+static void try_parts(void)
+{
+    struct file file = crowded();
+    uint64_t answer;
+    file.bytes[883 + 1] = 59;
+    answer = phrase_check(file.bytes, file.size);
+    expect("a place far off", "the refusal", phrase_refusal(answer), PHRASE_NO_BELL);
+    expect("a place far off", "its place", phrase_place(answer), 883);
+    expect("phrase_refusal", "the upper half", phrase_refusal(UINT64_C(0x0123456789ABCDEF)), 0x01234567);
+    expect("phrase_place", "the lower half", phrase_place(UINT64_C(0x0123456789ABCDEF)), 0x89ABCDEF);
+}
+
 /* ---- A text that does not fit ---- */
 
 /* The number of a report, as a host that keeps document 01's numbers has it. */
@@ -140,6 +155,7 @@ static void try_text_bytes(void)
 int main(void)
 {
     try_answers();
+    try_parts();
     try_text_short();
     try_table_words();
     try_text_bytes();
