@@ -1,9 +1,9 @@
 #!/usr/bin/env bash
 # Builds the C side over the proved library and runs it: host/player.c on files good and bad, tests/host/buffers.c on buffers of all kinds, and
 # tests/host/names.c, which provokes every name of the header, all three plainly, with gcc's sanitizers and under valgrind, where these are there;
-# tests/host/threads.c; tests/host/stack.c, which measures the stack; wrong headers; and the header from C++ where g++ is. PHRASE_LIB names another library than
-# target/staticlib/libphrase.a, which `rt staticlib phrase` writes; LDLIBS adds to what is linked. What is left out for want of a tool is said, and also
-# appended to the file that LEFT_OUT names, a line each.
+# tests/host/threads.c; tests/host/stack.c, which measures the stack; wrong headers; the C of README.md; and the header from C++ where g++ is. PHRASE_LIB names
+# another library than target/staticlib/libphrase.a, which `rt staticlib phrase` writes; LDLIBS adds to what is linked. What is left out for want of a tool is
+# said, and also appended to the file that LEFT_OUT names, a line each.
 set -euo pipefail
 cd "$(dirname "$0")/.."
 library=$(realpath -m "${PHRASE_LIB:-target/staticlib/libphrase.a}")
@@ -179,6 +179,27 @@ status=0
 gcc -std=c99 -U__x86_64__ -I host -fsyntax-only "$folder/other.c" >"$folder/log" 2>&1 && status=1
 grep -q '#error "libphrase.a is for x86-64 only"' "$folder/log" || status=1
 verdict 'the header refuses other processors' "$status" "$folder/log"
+
+# ---- The C of README.md, as it stands there ----
+
+# block START: the indented lines of README.md from this one to the first closing brace at their margin.
+block() {
+  sed -n "/^    $1/,/^    }\$/s/^    //p" README.md
+}
+block '#include <stdio.h>' >"$folder/sample.c"
+if build 'the host of README.md builds' "$folder/sample.c" "$folder/sample"; then
+  status=0
+  "$folder/sample" <"$p" >"$folder/out" || status=$?
+  verdict "the host of README.md on P: exit status $status, not 0" "$status"
+  same 'the host of README.md on P' examples/phrase-p.report "$folder/out"
+  status=0
+  "$folder/sample" <"$folder/late" >"$folder/out" || status=$?
+  verdict "the host of README.md on a late phrase: exit status $status, not 1" $((status != 1))
+fi
+block 'static uint64_t check_within' >"$folder/check_within.h"
+if build 'the loop of README.md builds' tests/host/within.c "$folder/within" -I "$folder"; then
+  passes 'the loop of README.md' "$folder/within" || true
+fi
 
 # ---- The Makefile ----
 
