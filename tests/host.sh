@@ -159,6 +159,12 @@ for binding in now lazy; do
   fi
 done
 
+# ---- How time grows: the answers and counts, which do not depend on the machine; docs/PERFORMANCE.md has the times of more strokes ----
+
+if build 'tests/host/growth.c builds' tests/host/growth.c "$folder/growth" -O2; then
+  passes 'growth' "$folder/growth" 10 || true
+fi
+
 # ---- Wrong headers: names.c has to see each number that is one more, and no other processor gets the header ----
 
 mkdir "$folder/wrong"
