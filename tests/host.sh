@@ -1,9 +1,9 @@
 #!/usr/bin/env bash
 # Builds the C side over the proved library and runs it: host/player.c on files good and bad, tests/host/buffers.c on buffers of all kinds, and
 # tests/host/names.c, which provokes every name of the header, all three plainly, with gcc's sanitizers and under valgrind, where these are there;
-# tests/host/threads.c; tests/host/stack.c, which measures the stack; wrong headers; the C of README.md; and the header from C++ where g++ is. PHRASE_LIB names
-# another library than target/staticlib/libphrase.a, which `rt staticlib phrase` writes; LDLIBS adds to what is linked. What is left out for want of a tool is
-# said, and also appended to the file that LEFT_OUT names, a line each.
+# tests/host/threads.c; tests/host/stack.c, which measures the stack; tests/host/growth.c; wrong headers; the C of README.md; and the header from C++ where
+# g++ is. PHRASE_LIB names another library than target/staticlib/libphrase.a, which `rt staticlib phrase` writes; LDLIBS adds to what is linked. What is left
+# out for want of a tool is said, and also appended to the file that LEFT_OUT names, a line each.
 set -euo pipefail
 cd "$(dirname "$0")/.."
 library=$(realpath -m "${PHRASE_LIB:-target/staticlib/libphrase.a}")
