@@ -134,6 +134,35 @@ all_go_first() {
 shows 'row 13, 64 strokes' "$(all_go_first 64)" 'refused 13 level 1'
 shows 'row 13, 63 strokes' "$(all_go_first 63)" 'refused 13 level 2'
 
+# All of 16,384 words, and no more. Three bells of one rank, hold 1, whose strokes are called 0..1000, may go in any order that keeps each bell's own, so
+# there is a state for each choice of three counts. With 44, 15 and 3 strokes these are 45 * 16 * 4, at most 64 in a level, first where the counts make 18;
+# a state takes 128 words, so that 16,384 have room for just 64, and one word less would be 13 at level 18. With 21, 9 and 9 strokes a level has up to
+# 100 states of 82 words, 100 first where the counts make 18; that needs 16,400 words. In the first phrase, stroke j of a bell ends at j + 1 at the
+# earliest, after those before it on the bell; stroke i of all at 1001 + i at the latest, when all are called at 1000 and go by number.
+in_any_order() {
+  local bells='' notes='' key=60 count strokes=0 j
+  for count in "$@"; do
+    bells+=$(printf '%02X 00 0001 0001 01 ' "$key")
+    for ((j = 0; j < count; j++)); do
+      notes+=$(printf '0D %02X 00000000 000003E8 0036EE80 ' "$key")
+    done
+    key=$((key + 1))
+    strokes=$((strokes + count))
+  done
+  counted "$(printf '01 %02X %s %02X %s' $# "$bells" "$strokes" "$notes")"
+}
+lines=()
+bell=0
+for origin in '44 C4' '15 C#4' '3 D4'; do
+  for ((j = 0; j < ${origin% *}; j++)); do
+    ends=$((j + 1))..$((1001 + ${#lines[@]}))
+    lines+=("stroke ${#lines[@]} key ${origin#* } bell $bell ends $ends response $ends due 3600000")
+  done
+  bell=$((bell + 1))
+done
+shows 'all of 16,384 words' "$(in_any_order 44 15 3)" "${lines[@]}" 'accepted strokes 62 states 2880 hold 62'
+shows 'no more than 16,384 words' "$(in_any_order 21 9 9)" 'refused 13 level 18'
+
 # ---- The marked phrases; M2 is P and M3 row 14, M4 needs a table of another size ----
 
 hour=0036EE80 # 3600000
