@@ -1,17 +1,24 @@
-//! Random phrase files from a seed: valid ones of many shapes, and damaged ones.
+//! Random phrase files from a seed: valid ones of many shapes, damaged ones, and large ones.
 
 mod damaged;
 mod generator;
+mod large;
 mod valid;
 
 pub use damaged::damaged;
 pub use generator::Generator;
+pub use large::large;
 pub use valid::{Shape, TINY, accepted_words, draft, tuned, valid};
 
 use crate::check::HOST_WORDS;
 use crate::dispatch::Scenario;
 use crate::reading::{self, Phrase};
 use crate::walk;
+
+/// The stream that `tests/compare.rs` takes unless told otherwise, and that `tests/stream.rs` holds
+/// to what it has to cover.
+pub const SEED: u64 = 1;
+pub const CASES: u64 = 20_000;
 
 /// A phrase file and the length of a table to lend for it.
 #[derive(Clone, Debug)]
@@ -23,13 +30,19 @@ pub struct Case {
 /// The case of this number in the stream of this seed; no other case is needed to make it.
 pub fn case(seed: u64, number: u64) -> Case {
     let mut random = Generator::of_case(seed, number);
-    let file = if random.chance(3, 5) {
-        valid(&mut random)
-    } else {
-        damaged(&mut random)
+    let file = match random.below(16) {
+        0 => return large(&mut random),
+        1..=9 => valid(&mut random),
+        _ => damaged(&mut random),
     };
     let table_words = table_words(&mut random, &file);
     Case { file, table_words }
+}
+
+/// One word less than tables of so many states take, `pair` words for each, or exactly so many, or
+/// one more.
+fn around(random: &mut Generator, pair: u64, states: u64) -> usize {
+    (pair * states + random.below(3)).saturating_sub(1) as usize
 }
 
 /// Lengths that say something: none, the host's, any, and those around a whole number of states.
@@ -38,16 +51,12 @@ fn table_words(random: &mut Generator, file: &[u8]) -> usize {
         return random.below(600) as usize;
     };
     let pair = 2 * walk::words_per_state(&phrase);
-    let around = |random: &mut Generator, states: u64| {
-        // One word less than so many states, exactly so many, or some words more.
-        (pair * states + random.below(3)).saturating_sub(1) as usize
-    };
     match random.below(10) {
         0 => 0,
         1 => random.below(pair * 3) as usize,
         2 => {
             let states = random.range(1, 4);
-            around(random, states)
+            around(random, pair, states)
         }
         3 => random.below(HOST_WORDS as u64) as usize,
         4 | 5 => HOST_WORDS,
@@ -55,7 +64,7 @@ fn table_words(random: &mut Generator, file: &[u8]) -> usize {
         // Around the length at which 13 gives way to another answer.
         _ => {
             let peak = walk::walk(&phrase, 2 * HOST_WORDS).peak;
-            around(random, peak)
+            around(random, pair, peak)
         }
     }
 }

@@ -13,7 +13,7 @@ use common::*;
 use reference::check::{Check, HOST_WORDS};
 use reference::draft::{Draft, DraftBell, DraftNote};
 use reference::foreign;
-use reference::random::{Generator, case};
+use reference::random::{self, Generator, case};
 use reference::reading::read;
 use reference::report::check_and_text;
 use reference::walk::{capacity, words_per_state};
@@ -171,8 +171,8 @@ fn in_hexadecimal(file: &[u8]) -> String {
 }
 
 fn compare_random_phrases() -> Result<(), String> {
-    let count = setting("COMPARE_COUNT", 20_000)?;
-    let seed = setting("COMPARE_SEED", 1)?;
+    let count = setting("COMPARE_COUNT", random::CASES)?;
+    let seed = setting("COMPARE_SEED", random::SEED)?;
     let first = setting("COMPARE_FIRST", 0)?;
     let mut kinds = Tally::default();
     let mut reports = [0; 2];

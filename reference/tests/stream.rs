@@ -1,25 +1,68 @@
-//! The random stream is worth comparing on: every kind of answer and every shape is frequent.
+//! The random stream is worth comparing on: every kind of answer and every shape is frequent, and
+//! large phrases are there. A change of the draw that loses any of this fails here.
 
 #[path = "common/tally.rs"]
 mod tally;
 
-use reference::check::{HOST_WORDS, check, check_phrase};
-use reference::random::{Generator, case, damaged};
-use reference::reading::read;
-use reference::walk::{Outcome, walk};
+use std::sync::LazyLock;
+
+use reference::check::{Check, HOST_WORDS, check, check_phrase};
+use reference::random::{CASES, Generator, SEED, case, damaged};
+use reference::reading::{Phrase, Refusal, read};
+use reference::walk::{Outcome, Walk, capacity, walk};
 use tally::Tally;
 
-const SEED: u64 = 1;
-const CASES: u64 = 20_000;
+struct Seen {
+    file: Vec<u8>,
+    read: Result<Walked, Refusal>,
+}
+
+/// A phrase, walked in the table that is lent and in one like the host's.
+struct Walked {
+    phrase: Phrase,
+    /// S of the lent table.
+    room: u64,
+    lent: Walk,
+    host: Walk,
+}
+
+/// The stream, for all tests.
+static STREAM: LazyLock<Vec<Seen>> = LazyLock::new(|| (0..CASES).map(see).collect());
+
+fn see(number: u64) -> Seen {
+    let case = case(SEED, number);
+    let read = read(&case.file).map(|phrase| Walked {
+        room: capacity(&phrase, case.table_words),
+        lent: walk(&phrase, case.table_words),
+        host: walk(&phrase, HOST_WORDS),
+        phrase,
+    });
+    Seen {
+        file: case.file,
+        read,
+    }
+}
+
+fn walked() -> impl Iterator<Item = (&'static [u8], &'static Walked)> {
+    let read = |seen: &'static Seen| Some((&seen.file[..], seen.read.as_ref().ok()?));
+    STREAM.iter().filter_map(read)
+}
+
+fn is_accepted(walk: &Walk) -> bool {
+    matches!(walk.outcome, Outcome::Accepted { .. })
+}
 
 #[test]
 fn each_kind_of_answer_is_frequent() {
     let mut lent = Tally::default();
     let mut host = Tally::default();
-    for number in 0..CASES {
-        let case = case(SEED, number);
-        lent.add(&check(&case.file, case.table_words));
-        host.add(&check(&case.file, HOST_WORDS));
+    for seen in STREAM.iter() {
+        let check = |walk: fn(&Walked) -> &Walk| match &seen.read {
+            Ok(walked) => walk(walked).clone().into(),
+            Err(refusal) => Check::bare((*refusal).into()),
+        };
+        lent.add(&check(|walked| &walked.lent));
+        host.add(&check(|walked| &walked.host));
     }
     lent.print("tables of many lengths");
     host.print("the host's table");
@@ -36,17 +79,14 @@ fn accepted_phrases_have_all_shapes() {
     let mut by_strokes = [0; 65];
     let mut by_drivers = [0; 9];
     let (mut joined, mut doubled, mut waiting, mut branching) = (0, 0, 0, 0);
-    for number in 0..CASES {
-        let file = case(SEED, number).file;
-        let Ok(phrase) = read(&file) else { continue };
-        let walked = walk(&phrase, HOST_WORDS);
-        if !matches!(walked.outcome, Outcome::Accepted { .. }) {
+    for (file, Walked { phrase, host, .. }) in walked() {
+        if !is_accepted(host) {
             continue;
         }
         by_strokes[phrase.strokes.len()] += 1;
         by_drivers[phrase.drivers] += 1;
-        joined += u64::from(walked.edges > walked.states - 1);
-        branching += u64::from(walked.peak > 10);
+        joined += u64::from(host.edges > host.states - 1);
+        branching += u64::from(host.peak > 10);
         waiting += u64::from(phrase.strokes.iter().any(|s| s.waits.len() > 2));
         let written: Vec<u8> = file[7..]
             .chunks(7)
@@ -64,6 +104,91 @@ fn accepted_phrases_have_all_shapes() {
     for count in [joined, doubled, waiting, branching] {
         assert!(count > 200);
     }
+}
+
+#[test]
+fn levels_have_hundreds_and_thousands_of_states() {
+    for (states, due) in [(100, 30), (200, 20), (500, 10), (1_000, 4), (3_000, 1)] {
+        let (mut exact, mut full) = (0, 0);
+        for (_, Walked { room, lent, .. }) in walked() {
+            if lent.peak > states {
+                exact += u64::from(is_accepted(lent) && *room == lent.peak);
+                full += u64::from(matches!(lent.outcome, Outcome::Full { .. }));
+            }
+        }
+        println!("over {states} states: {exact} accepted with no room to spare, {full} full");
+        assert!(exact >= due && full >= due, "over {states} states");
+    }
+}
+
+#[test]
+fn full_levels_and_late_strokes_go_up_to_the_last() {
+    let (mut by_level, mut by_stroke) = ([0; 65], [0; 64]);
+    for (_, Walked { lent, .. }) in walked() {
+        match lent.outcome {
+            Outcome::Full { level } => by_level[level] += 1,
+            Outcome::Late { stroke, .. } => by_stroke[stroke] += 1,
+            Outcome::Accepted { .. } => {}
+        }
+    }
+    println!("13 by level: {by_level:?}\n14 by stroke: {by_stroke:?}");
+    // Level K, 64 at most, is never full: a state of the level before has one stroke left to start.
+    assert_eq!(by_level[64], 0);
+    assert!(by_level[..64].iter().all(|&count| count > 0));
+    assert!(by_level[55..64].iter().all(|&count| count >= 3));
+    assert!(by_stroke.iter().all(|&count| count > 0));
+    assert!(by_stroke[58..].iter().all(|&count| count >= 5));
+}
+
+#[test]
+fn files_are_as_long_as_they_can_be() {
+    /// 96 bells, and 64 notes that list four strokes each.
+    const ALL_RECORDS: usize = 7 + 96 * 7 + 1 + 64 * 18;
+    /// The first four notes have no four strokes before them.
+    const LONGEST: usize = ALL_RECORDS - (4 + 3 + 2 + 1);
+    const LONG: usize = 1_670;
+
+    let (mut longest, mut accepted) = (0, 0);
+    for (file, Walked { lent, .. }) in walked() {
+        assert!(file.len() <= LONGEST);
+        longest += u64::from(file.len() == LONGEST);
+        accepted += u64::from(file.len() == LONGEST && is_accepted(lent));
+    }
+    println!("{longest} of the longest files are read, {accepted} of them accepted");
+    assert!(longest >= 50 && accepted >= 20);
+
+    let (mut by_number, mut far, mut too_long) = ([0; 13], 0, 0);
+    for seen in STREAM.iter().filter(|seen| seen.file.len() > LONG) {
+        if let Err(refusal) = seen.read {
+            by_number[refusal.number as usize] += 1;
+            far += u64::from(refusal.place > LONG as u64);
+            too_long += u64::from(seen.file.len() >= ALL_RECORDS);
+        }
+    }
+    println!("long files refused, by number: {by_number:?}; {far} at a place near their end");
+    assert!(
+        [3, 9, 10, 11, 12]
+            .iter()
+            .all(|&number| by_number[number] > 0)
+    );
+    assert!(far >= 10 && too_long > 0);
+}
+
+#[test]
+fn most_strokes_on_most_drivers_are_frequent() {
+    let most = |(_, walked): &(_, &'static Walked)| {
+        walked.phrase.strokes.len() == 64 && walked.phrase.drivers == 8
+    };
+    let (mut accepted, mut full, mut late) = (0, 0, 0);
+    for (_, Walked { lent, .. }) in walked().filter(most) {
+        match lent.outcome {
+            Outcome::Accepted { .. } => accepted += 1,
+            Outcome::Full { .. } => full += 1,
+            Outcome::Late { .. } => late += 1,
+        }
+    }
+    println!("64 strokes on 8 drivers: accepted {accepted}, 13 {full}, 14 {late}");
+    assert!(accepted >= 100 && full >= 100 && late >= 50);
 }
 
 #[test]

@@ -17,9 +17,13 @@ const SHAPE: Shape = Shape {
     waiting: 50,
 };
 
-/// A draft with one field or two at or beyond a limit, or a file with its bytes disturbed.
 pub fn damaged(random: &mut Generator) -> Vec<u8> {
-    let mut draft = valid::draft(random, &SHAPE);
+    let draft = valid::draft(random, &SHAPE);
+    harmed(random, draft)
+}
+
+/// The draft with one field or two at or beyond a limit, or its file with bytes disturbed.
+pub(super) fn harmed(random: &mut Generator, mut draft: Draft) -> Vec<u8> {
     if random.chance(1, 3) {
         let mut file = draft.bytes();
         disturb(random, &mut file);
@@ -50,7 +54,11 @@ fn damage(random: &mut Generator, draft: &mut Draft) {
                 .map(|_| random.below(256) as u8)
                 .collect()
         }
-        _ => damage_note(random, draft),
+        _ if draft.notes.is_empty() => {}
+        _ => {
+            let number = random.below(draft.notes.len() as u64) as u8;
+            damage_note(random, draft, number);
+        }
     }
 }
 
@@ -134,11 +142,7 @@ fn damage_stroke_count(random: &mut Generator, draft: &mut Draft) {
     draft.stroke_count = draft.notes.len() as u8;
 }
 
-fn damage_note(random: &mut Generator, draft: &mut Draft) {
-    if draft.notes.is_empty() {
-        return;
-    }
-    let number = random.below(draft.notes.len() as u64) as u8;
+pub(super) fn damage_note(random: &mut Generator, draft: &mut Draft, number: u8) {
     let bell = draft.bells[random.below(draft.bells.len() as u64) as usize].clone();
     let note = &mut draft.notes[usize::from(number)];
     match random.below(7) {

@@ -3,6 +3,7 @@
 use super::Generator;
 use crate::check::HOST_WORDS;
 use crate::draft::{Draft, DraftBell, DraftNote};
+use crate::range::Range;
 use crate::reading::{self, LATEST_TIME};
 use crate::walk::{self, Outcome};
 
@@ -178,7 +179,7 @@ pub fn draft(random: &mut Generator, shape: &Shape) -> Draft {
 }
 
 /// Bells with sounding keys of their own; written keys are doubled where that can be.
-fn draft_bells(random: &mut Generator, shape: &Shape, count: u64) -> Vec<DraftBell> {
+pub(super) fn draft_bells(random: &mut Generator, shape: &Shape, count: u64) -> Vec<DraftBell> {
     let mut free_keys: Vec<i16> = (12..=119).collect();
     let mut bells: Vec<DraftBell> = Vec::new();
     for _ in 0..count {
@@ -241,14 +242,19 @@ pub fn tuned(random: &mut Generator, mut draft: Draft) -> Draft {
     let Outcome::Accepted { ends, .. } = walk::walk(&phrase, HOST_WORDS).outcome else {
         return draft;
     };
-    for (note, ends) in draft.notes.iter_mut().zip(&ends) {
-        note.due = (ends.high + random.below(2)).min(LATEST_TIME) as u32;
-    }
+    due_at(random, &mut draft, &ends);
     if !ends.is_empty() && random.chance(1, 2) {
         let stroke = random.below(ends.len() as u64) as usize;
         draft.notes[stroke].due = ends[stroke].high as u32 - 1;
     }
     draft
+}
+
+/// Dues at the latest ends, or just above them.
+pub(super) fn due_at(random: &mut Generator, draft: &mut Draft, ends: &[Range]) {
+    for (note, ends) in draft.notes.iter_mut().zip(ends) {
+        note.due = (ends.high + random.below(2)).min(LATEST_TIME) as u32;
+    }
 }
 
 /// The fewest words with which a valid file is accepted, if `most` words are enough.
