@@ -220,6 +220,11 @@ fn compare_examples() -> Result<(), String> {
         }
     }
     println!("examples that agree: {}", files.len());
+    for (counts, words) in NEAR_HOST_WORDS {
+        for table_words in [words - 1, words] {
+            compare_once(&in_any_order(&counts), table_words, 0)?;
+        }
+    }
     Ok(())
 }
 

@@ -134,3 +134,16 @@ fn no_strokes_take_8_words() {
     assert_refused(&m8(), 7, 13, 0, "refused 13 level 0\n");
     assert_refused(&m8(), 0, 13, 0, "refused 13 level 0\n");
 }
+
+#[test]
+fn one_word_less_than_a_phrase_takes_is_13() {
+    for (counts, words) in NEAR_HOST_WORDS {
+        let file = in_any_order(&counts);
+        // At the earliest, as many as come before it on its bell have gone; at the latest, all before it.
+        let on_bell = counts.iter().flat_map(|&count| 1..=count);
+        let ends: Vec<(u64, u64)> = on_bell.map(|j| j as u64).zip(1_001..).collect();
+        let states = counts.iter().map(|&count| count as u64 + 1).product();
+        assert_accepted(&file, words, &ends, states);
+        assert_refused(&file, words - 1, 13, 18, "refused 13 level 18\n");
+    }
+}

@@ -96,3 +96,23 @@ pub fn m7() -> Vec<u8> {
 pub fn m8() -> Vec<u8> {
     marked(1, &[])
 }
+
+/// Strokes that may go in any order that keeps each bell's own: so many on each bell, one driver.
+pub fn in_any_order(counts: &[usize]) -> Vec<u8> {
+    let mut bells = Vec::new();
+    let mut notes = Vec::new();
+    for (key, &count) in (60..).zip(counts) {
+        bells.push(DraftBell {
+            written: key,
+            transposition: 0,
+            ca: 1,
+            cb: 1,
+            rank: 1,
+        });
+        notes.extend((0..count).map(|_| DraftNote::new(key, 0, 1_000, 3_600_000, vec![])));
+    }
+    Draft::new(1, bells, notes).bytes()
+}
+
+/// Phrases that take all of 16,384 words, and just over 16,384: the bells' counts and the words.
+pub const NEAR_HOST_WORDS: [([usize; 3], usize); 2] = [([44, 15, 3], 16_384), ([21, 9, 9], 16_400)];
