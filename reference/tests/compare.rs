@@ -174,6 +174,9 @@ fn compare_random_phrases() -> Result<(), String> {
     let count = setting("COMPARE_COUNT", random::CASES)?;
     let seed = setting("COMPARE_SEED", random::SEED)?;
     let first = setting("COMPARE_FIRST", 0)?;
+    if count == 0 {
+        return Err("COMPARE_COUNT is 0: nothing to compare".to_string());
+    }
     let mut kinds = Tally::default();
     let mut reports = [0; 2];
     for number in first..first + count {
@@ -277,7 +280,7 @@ fn main() -> ExitCode {
     {
         Ok(()) => ExitCode::SUCCESS,
         Err(difference) => {
-            println!("DIFFERENCE: {difference}");
+            println!("compare: FAILED: {difference}");
             ExitCode::FAILURE
         }
     }

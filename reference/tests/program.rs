@@ -14,7 +14,10 @@ const TABLE_WORDS: usize = 16_384;
 const SEED: u64 = 7;
 
 fn count() -> u64 {
-    env::var("PROGRAM_CASES").map_or(CASES, |n| n.parse().expect("PROGRAM_CASES is a number"))
+    let count =
+        env::var("PROGRAM_CASES").map_or(CASES, |n| n.parse().expect("PROGRAM_CASES is a number"));
+    assert!(count > 0, "PROGRAM_CASES is 0: nothing to compare");
+    count
 }
 
 fn program() -> String {

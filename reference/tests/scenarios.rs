@@ -20,7 +20,9 @@ fn accepted(file: &[u8]) -> Option<(Phrase, Check)> {
 }
 
 fn setting(name: &str, otherwise: u64) -> u64 {
-    std::env::var(name).map_or(otherwise, |value| value.parse().expect(name))
+    let count = std::env::var(name).map_or(otherwise, |value| value.parse().expect(name));
+    assert!(count > 0, "{name} is 0: nothing to try");
+    count
 }
 
 /// Holds a scenario against demand 3, and says all about it when it breaks it.
