@@ -3,8 +3,10 @@
 pub mod check;
 pub mod dispatch;
 pub mod draft;
+pub mod examples;
 #[cfg(feature = "linked")]
 pub mod foreign;
+pub mod printed;
 pub mod random;
 pub mod range;
 pub mod reading;

@@ -2,16 +2,15 @@
 //!
 //! COMPARE_COUNT phrases (20,000) of COMPARE_SEED (1), from number COMPARE_FIRST (0) on.
 
-mod common;
 #[path = "common/tally.rs"]
 mod tally;
 
 use std::env;
 use std::process::ExitCode;
 
-use common::*;
 use reference::check::{Check, HOST_WORDS};
 use reference::draft::{Draft, DraftBell, DraftNote};
+use reference::examples::*;
 use reference::foreign;
 use reference::random::{self, Generator, case};
 use reference::reading::read;

@@ -1,9 +1,7 @@
 //! Every example of document 01.
 
-mod common;
-
-use common::*;
 use reference::check::{Answer, Check, HOST_WORDS, check};
+use reference::examples::*;
 use reference::range::Range;
 use reference::report::report;
 

@@ -1,9 +1,7 @@
 //! Every limit of reading, at it and just beyond it, and which refusal comes first.
 
-mod common;
-
-use common::*;
 use reference::draft::{Draft, DraftBell, DraftNote, correct_count};
+use reference::examples::*;
 use reference::reading::{Refusal, read};
 
 /// Five bells and five notes, the third written key doubled; right in everything.

@@ -1,6 +1,7 @@
 //! The product's check against this checker, on random phrases: through the program `checker_examples`, which the gate has proved and built.
 
-use reference::check::{Answer, Check, check};
+use reference::check::check;
+use reference::printed::result;
 use reference::random::{CASES, Case, case};
 use reference::reading;
 use reference::walk::words_per_state;
@@ -47,37 +48,10 @@ fn frame(case: &Case) -> Vec<u8> {
     bytes
 }
 
-fn answer(check: &Check) -> String {
-    match check.answer {
-        Answer::Accepted => "accepted".to_string(),
-        Answer::Refused { number, place } => format!("refused {number} at {place}"),
-        Answer::Late { stroke, ends } => format!("late {stroke} ends {} {}", ends.low, ends.high),
-    }
-}
-
 /// What the program should print for a case.
 fn expected(case: &Case) -> String {
     let checked = check(&case.file, case.table_words);
-    let k = checked.strokes;
-    let row = |name: &str, words: &mut dyn Iterator<Item = u64>| {
-        let words: String = words.map(|w| format!(" {w}")).collect();
-        format!("{name}{words}, clear\n")
-    };
-    let ends = &checked.ends[..k];
-    let responses = &checked.responses[..k];
-    [
-        format!(
-            "{}, jobs {k}, states {}\n",
-            answer(&checked),
-            checked.states
-        ),
-        row("earliest", &mut ends.iter().map(|r| r.low)),
-        row("latest", &mut ends.iter().map(|r| r.high)),
-        row("best", &mut responses.iter().map(|r| r.low)),
-        row("worst", &mut responses.iter().map(|r| r.high)),
-        "rest unchanged\n".to_string(),
-    ]
-    .concat()
+    result(&checked) + "rest unchanged\n"
 }
 
 /// One run of the program.

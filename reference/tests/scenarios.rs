@@ -2,13 +2,11 @@
 //!
 //! SCENARIO_PHRASES small phrases (1,500) and SCENARIO_CASES cases of the stream (6,000).
 
-mod common;
-
-use common::*;
 use reference::check::{Answer, Check, HOST_WORDS, check_phrase};
 use reference::dispatch::{
     Breach, Scenario, State, Status, all_scenarios, demand_3, play, scenario_count, states,
 };
+use reference::examples::*;
 use reference::random::{self, Generator, Shape, TINY};
 use reference::range::Range;
 use reference::reading::{Phrase, read};

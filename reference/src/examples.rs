@@ -1,7 +1,6 @@
-//! The phrases that document 01 names.
-#![allow(dead_code)] // Each test file uses its own part.
+//! The phrases that document 01 names, and some made for one question.
 
-use reference::draft::{Draft, DraftBell, DraftNote};
+use crate::draft::{Draft, DraftBell, DraftNote};
 
 /// Phrase P, as document 01 prints it.
 pub const P: [u8; 50] = [
