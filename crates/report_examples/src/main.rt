@@ -1,6 +1,9 @@
 // Reports on example files from standard input, each after three pairs of bytes that say how many words the table has, how many bytes the text may take,
-// and how long the file is. Prints each text and its length, and whether the bytes of the buffer after it, which held something before, are unchanged.
-// `stdin` and `stdout` are made by the second checker (reference/src/bin/vectors.rs).
+// and how long the file is. Prints each text and its length, and whether the bytes of the buffer after it, which held something before, are unchanged;
+// then the answer with all that it carries, and whether the entries beyond its jobs are zero. The first examples are worked by hand, the others are the
+// second checker's; reference/src/bin/vectors.rs has both and makes `stdin` and `stdout`.
+use checker::Answer;
+use checker::Checked;
 use libc::STDIN_FILENO;
 use libc::STDOUT_FILENO;
 use report::report;
@@ -17,6 +20,68 @@ const HEAD: usize = 6;
 
 fn print(text: &[u8]) {
     io::write_all(STDOUT_FILENO, text);
+}
+
+fn print_number(x: u32) {
+    print(b" ");
+    io::print_decimal(STDOUT_FILENO, x as u64);
+}
+
+fn print_size(x: usize) {
+    print(b" ");
+    io::print_decimal(STDOUT_FILENO, x as u64);
+}
+
+fn show_answer(answer: Answer) {
+    match answer {
+        Answer::Accepted => print(b"accepted"),
+        Answer::Refused(number, place) => {
+            print(b"refused");
+            print_number(number);
+            print(b" at");
+            print_size(place);
+        }
+        Answer::Late(job, earliest, latest) => {
+            print(b"late");
+            print_size(job);
+            print(b" ends");
+            print_number(earliest);
+            print_number(latest);
+        }
+    }
+}
+
+// The first k words, and whether the others are zero.
+fn print_bounds(name: &[u8], words: &[u32], k: usize) {
+    print(name);
+    let mut clear = true;
+    let mut i = 0;
+    while i < words.len() {
+        if i < k {
+            print_number(words[i]);
+        } else if words[i] != 0 {
+            clear = false;
+        }
+        i += 1;
+    }
+    if clear {
+        print(b", clear\n");
+    } else {
+        print(b", not clear\n");
+    }
+}
+
+fn show_result(checked: Checked) {
+    show_answer(checked.answer);
+    print(b", jobs");
+    print_size(checked.jobs);
+    print(b", states ");
+    io::print_decimal(STDOUT_FILENO, checked.states);
+    print(b"\n");
+    print_bounds(b"earliest", &checked.earliest, checked.jobs);
+    print_bounds(b"latest", &checked.latest, checked.jobs);
+    print_bounds(b"best", &checked.best, checked.jobs);
+    print_bounds(b"worst", &checked.worst, checked.jobs);
 }
 
 fn show_rest(text: &[u8], from: usize) {
@@ -51,6 +116,7 @@ fn show_over(file: &[u8], table: &mut [u32], words: usize, text: &mut [u8], byte
     }
     let reported = report(file, &mut table[0..words], &mut text[0..bytes]);
     show_text(text, reported.length);
+    show_result(reported.checked);
 }
 
 fn show(file: &[u8], words: usize, bytes: usize) {
