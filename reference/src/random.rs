@@ -7,7 +7,6 @@ mod valid;
 
 pub use damaged::damaged;
 pub use generator::Generator;
-pub use large::large;
 pub use valid::{Shape, TINY, accepted_words, draft, tuned, valid};
 
 use crate::check::HOST_WORDS;
@@ -15,10 +14,11 @@ use crate::dispatch::Scenario;
 use crate::reading::{self, Phrase};
 use crate::walk;
 
-/// The stream that `tests/compare.rs` takes unless told otherwise, and that `tests/stream.rs` holds
-/// to what it has to cover.
+/// What `tests/compare.rs` takes unless told otherwise, and `tests/stream.rs` holds to what it has to
+/// cover: so many cases of this seed, and one of the widest for every two thousand of them.
 pub const SEED: u64 = 1;
 pub const CASES: u64 = 20_000;
+pub const CASES_PER_WIDEST: u64 = 2_000;
 
 /// A phrase file and the length of a table to lend for it.
 #[derive(Clone, Debug)]
@@ -31,12 +31,17 @@ pub struct Case {
 pub fn case(seed: u64, number: u64) -> Case {
     let mut random = Generator::of_case(seed, number);
     let file = match random.below(16) {
-        0 => return large(&mut random),
+        0 => return large::large(&mut random),
         1..=9 => valid(&mut random),
         _ => damaged(&mut random),
     };
     let table_words = table_words(&mut random, &file);
     Case { file, table_words }
+}
+
+/// A case with levels of thousands of states, by number like the others.
+pub fn widest_case(seed: u64, number: u64) -> Case {
+    large::widest(&mut Generator::of_case(seed, number))
 }
 
 /// One word less than tables of so many states take, `pair` words for each, or exactly so many, or

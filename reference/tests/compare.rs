@@ -1,6 +1,7 @@
 //! The product's library against this checker: numbers, places, texts and all that stays untouched.
 //!
-//! COMPARE_COUNT phrases (20,000) of COMPARE_SEED (1), from number COMPARE_FIRST (0) on.
+//! COMPARE_COUNT phrases (20,000) of COMPARE_SEED (1), from number COMPARE_FIRST (0) on, and for every
+//! two thousand one of the widest.
 
 #[path = "common/tally.rs"]
 mod tally;
@@ -12,7 +13,7 @@ use reference::check::{Check, HOST_WORDS};
 use reference::draft::{Draft, DraftBell, DraftNote};
 use reference::examples::*;
 use reference::foreign;
-use reference::random::{self, Generator, case};
+use reference::random::{self, Generator, case, widest_case};
 use reference::reading::read;
 use reference::report::check_and_text;
 use reference::walk::{capacity, words_per_state};
@@ -178,8 +179,10 @@ fn compare_random_phrases() -> Result<(), String> {
     }
     let mut kinds = Tally::default();
     let mut reports = [0; 2];
-    for number in first..first + count {
-        let case = case(seed, number);
+    let widest = count.div_ceil(random::CASES_PER_WIDEST);
+    let cases = (first..first + count).map(|number| (number, case(seed, number)));
+    let widest = (first..first + widest).map(|number| (number, widest_case(seed, number)));
+    for (number, case) in cases.chain(widest) {
         let mut trial = Trial {
             file: &case.file,
             table_words: case.table_words,

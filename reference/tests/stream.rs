@@ -7,7 +7,9 @@ mod tally;
 use std::sync::LazyLock;
 
 use reference::check::{Check, HOST_WORDS, check, check_phrase};
-use reference::random::{CASES, Generator, SEED, case, damaged};
+use reference::random::{
+    CASES, CASES_PER_WIDEST, Case, Generator, SEED, case, damaged, widest_case,
+};
 use reference::reading::{Phrase, Refusal, read};
 use reference::walk::{Outcome, Walk, capacity, walk};
 use tally::Tally;
@@ -26,11 +28,14 @@ struct Walked {
     host: Walk,
 }
 
-/// The stream, for all tests.
-static STREAM: LazyLock<Vec<Seen>> = LazyLock::new(|| (0..CASES).map(see).collect());
+/// All that is compared, for all tests.
+static STREAM: LazyLock<Vec<Seen>> = LazyLock::new(|| {
+    let cases = (0..CASES).map(|number| case(SEED, number));
+    let widest = (0..CASES / CASES_PER_WIDEST).map(|number| widest_case(SEED, number));
+    cases.chain(widest).map(see).collect()
+});
 
-fn see(number: u64) -> Seen {
-    let case = case(SEED, number);
+fn see(case: Case) -> Seen {
     let read = read(&case.file).map(|phrase| Walked {
         room: capacity(&phrase, case.table_words),
         lent: walk(&phrase, case.table_words),
@@ -108,7 +113,7 @@ fn accepted_phrases_have_all_shapes() {
 
 #[test]
 fn levels_have_hundreds_and_thousands_of_states() {
-    for (states, due) in [(100, 30), (200, 20), (500, 10), (1_000, 4), (3_000, 1)] {
+    for (states, due) in [(100, 30), (200, 15), (500, 5), (1_000, 3), (3_000, 1)] {
         let (mut exact, mut full) = (0, 0);
         for (_, Walked { room, lent, .. }) in walked() {
             if lent.peak > states {

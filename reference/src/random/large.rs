@@ -7,7 +7,7 @@ use crate::check::HOST_WORDS;
 use crate::draft::{Draft, DraftNote};
 use crate::range::Range;
 use crate::reading::{self, LATEST_TIME};
-use crate::walk::{self, Outcome};
+use crate::walk::{self, Outcome, Walk};
 
 /// Levels of more states take too long to walk.
 const MOST_STATES: u64 = 4_000;
@@ -34,20 +34,27 @@ const SOME_ORDERS: Shape = Shape {
     ..ANY_ORDER
 };
 
+/// A draft, and what walking it takes.
+struct Measured {
+    draft: Draft,
+    /// The words of two states, one in each half of the table.
+    pair: u64,
+    walk: Walk,
+}
+
+/// Large in all ways; levels have up to some hundreds of states.
 pub fn large(random: &mut Generator) -> Case {
-    let draft = draft(random);
-    let phrase = reading::read(&draft.bytes()).expect("drawn phrases are valid");
-    let pair = 2 * walk::words_per_state(&phrase);
-    let walked = walk::walk(&phrase, (pair * MOST_STATES) as usize);
+    let (strokes, bells) = large_group(random);
+    let Measured { draft, pair, walk } = measured(random, strokes, bells);
     let table_words = match random.below(8) {
-        0..=3 => around(random, pair, walked.peak),
+        0..=3 => around(random, pair, walk.peak),
         4..=6 => {
-            let states = random.range(1, walked.peak);
+            let states = random.range(1, walk.peak);
             around(random, pair, states)
         }
         _ => HOST_WORDS,
     };
-    let draft = match walked.outcome {
+    let draft = match walk.outcome {
         Outcome::Accepted { ends, .. } => with_dues(random, draft, &ends),
         _ => draft,
     };
@@ -59,6 +66,32 @@ pub fn large(random: &mut Generator) -> Case {
     Case { file, table_words }
 }
 
+/// Levels of thousands of states, which take long to walk.
+pub fn widest(random: &mut Generator) -> Case {
+    let strokes = random.range(13, 14);
+    let Measured { draft, pair, walk } = measured(random, strokes, strokes);
+    let states = if random.chance(3, 4) {
+        walk.peak
+    } else {
+        random.range(walk.peak / 2, walk.peak)
+    };
+    Case {
+        file: draft.bytes(),
+        table_words: around(random, pair, states),
+    }
+}
+
+fn measured(random: &mut Generator, strokes: u64, bells: u64) -> Measured {
+    let draft = draft(random, strokes, bells);
+    let phrase = reading::read(&draft.bytes()).expect("drawn phrases are valid");
+    let pair = 2 * walk::words_per_state(&phrase);
+    Measured {
+        draft,
+        pair,
+        walk: walk::walk(&phrase, (pair * MOST_STATES) as usize),
+    }
+}
+
 /// Strokes that are called at about the same time, when all before them have ended.
 struct Group {
     strokes: u64,
@@ -68,8 +101,9 @@ struct Group {
     spread: u64,
 }
 
-/// Levels have many states where the large group goes, and few elsewhere.
-fn draft(random: &mut Generator) -> Draft {
+/// A large group of so many strokes on so many bells, among small ones: levels have many states where
+/// it goes, and few elsewhere.
+fn draft(random: &mut Generator, strokes: u64, bells: u64) -> Draft {
     let shape = random.pick(&[ANY_ORDER, ANY_ORDER, SOME_ORDERS]);
     let longest = random.chance(1, 4);
     let most_or_any = |random: &mut Generator, times: u64, (low, most): (u64, u64)| {
@@ -90,15 +124,19 @@ fn draft(random: &mut Generator) -> Draft {
     draft.stroke_count = stroke_count as u8;
     let waiting = if longest { 100 } else { shape.waiting };
     let mut call = 0;
-    for group in groups(random, stroke_count, shape.call_spread) {
+    let large = Group {
+        strokes: strokes.min(stroke_count),
+        bells,
+        spread: shape.call_spread,
+    };
+    for group in groups(random, stroke_count, large) {
         call = add_group(random, &mut draft, &group, waiting, call);
     }
     draft
 }
 
 /// The large group, mostly the last, among small ones.
-fn groups(random: &mut Generator, strokes: u64, spread: u64) -> Vec<Group> {
-    let large = large_group(random, strokes, spread);
+fn groups(random: &mut Generator, strokes: u64, large: Group) -> Vec<Group> {
     let others = strokes - large.strokes;
     let before = if random.chance(2, 3) {
         others
@@ -112,26 +150,17 @@ fn groups(random: &mut Generator, strokes: u64, spread: u64) -> Vec<Group> {
     groups
 }
 
-/// Mostly each stroke on a bell of its own. Sizes that make thousands of states are rare, because
-/// they take long.
-fn large_group(random: &mut Generator, most: u64, spread: u64) -> Group {
-    let (strokes, bells) = match random.below(250) {
-        0..=3 => (14, 14),
-        4..=8 => (13, 13),
-        9..=18 => (12, 12),
-        19..=38 => (11, 11),
-        39..=60 => (10, 10),
-        61..=199 => {
-            let strokes = random.range(2, 9);
-            (strokes, strokes)
-        }
-        _ => (random.range(8, 28).min(most), random.range(2, 4)),
+/// Strokes and bells of a large group: mostly each stroke on a bell of its own, else chains. The more
+/// states these make, the longer they take, and the rarer they are.
+fn large_group(random: &mut Generator) -> (u64, u64) {
+    let strokes = match random.below(100) {
+        0..=1 => 12,
+        2..=5 => 11,
+        6..=14 => 10,
+        15..=80 => random.range(2, 9),
+        _ => return (random.range(8, 24), random.range(2, 4)),
     };
-    Group {
-        strokes,
-        bells,
-        spread,
-    }
+    (strokes, strokes)
 }
 
 fn small_groups(random: &mut Generator, strokes: u64, most: u64) -> Vec<Group> {
