@@ -1,6 +1,6 @@
 #!/usr/bin/env bash
-# Runs the program phrasecheck on every example of document 01 that it can show, on examples/ and at the limit of its input, and compares what it prints
-# byte by byte. PHRASECHECK names another program than target/bin/phrasecheck, which `rt check phrasecheck` builds.
+# Runs the program phrasecheck on every example of document 01 that it can show, on examples/ and at the limits of its table and its input, and compares
+# what it prints byte by byte. PHRASECHECK names another program than target/bin/phrasecheck, which `rt check phrasecheck` builds.
 set -euo pipefail
 cd "$(dirname "$0")/.."
 program=${PHRASECHECK:-target/bin/phrasecheck}
