@@ -2,7 +2,7 @@
 //!
 //! SCENARIO_PHRASES small phrases (1,500) and SCENARIO_CASES cases of the stream (6,000).
 
-use reference::check::{Answer, Check, HOST_WORDS, check_phrase};
+use reference::check::{Answer, Check, HOST_WORDS, check, check_phrase};
 use reference::dispatch::{
     Breach, Scenario, State, Status, all_scenarios, demand_3, play, scenario_count, states,
 };
@@ -39,6 +39,56 @@ fn marked_phrases_keep_demand_3_in_all_scenarios() {
             assert_demand_3(&phrase, &check, &scenario);
         }
     }
+}
+
+/// The worst end of each stroke in all runs of a phrase.
+fn worst_ends(phrase: &Phrase) -> Vec<u64> {
+    let strokes = &phrase.strokes;
+    let holds: u64 = strokes.iter().map(|stroke| stroke.hold.high).sum();
+    let last = strokes
+        .iter()
+        .map(|stroke| stroke.call.high)
+        .max()
+        .unwrap_or(0)
+        + holds;
+    let mut worst = vec![0; strokes.len()];
+    for scenario in all_scenarios(phrase) {
+        let (starts, state) = play(phrase, &scenario, last);
+        assert!(state.strokes.iter().all(|&status| status == Status::Done));
+        for start in starts {
+            worst[start.stroke] = worst[start.stroke].max(start.end);
+        }
+    }
+    worst
+}
+
+/// 14 says that a phrase was not shown to be on time. Here every phrase is: its due times are the
+/// worst ends of all its runs. Most are accepted, some are not.
+#[test]
+fn a_phrase_that_is_on_time_in_all_runs_may_get_14() {
+    let mut random = Generator::new(7);
+    let (mut phrases, mut late) = (0, 0);
+    let wanted = setting("SCENARIO_PHRASES", 1_500);
+    while phrases < wanted {
+        let mut draft = random::draft(&mut random, &TINY);
+        let Ok(phrase) = read(&draft.bytes()) else {
+            continue;
+        };
+        if phrase.strokes.is_empty() || scenario_count(&phrase).is_none_or(|count| count > 3_000) {
+            continue;
+        }
+        phrases += 1;
+        for (note, end) in draft.notes.iter_mut().zip(worst_ends(&phrase)) {
+            note.due = end as u32;
+        }
+        match check(&draft.bytes(), 1 << 20).answer {
+            Answer::Accepted => {}
+            Answer::Late { .. } => late += 1,
+            refused => panic!("{refused:?}"),
+        }
+    }
+    println!("{late} of {phrases} phrases that are on time in all runs get 14");
+    assert!(late > 0 && late * 4 < phrases);
 }
 
 #[test]
