@@ -48,6 +48,44 @@ bellAt t x =
       expected = x;
     }
 
+-- On two cores, three jobs are ready at 0: two start in that moment, the first two by priority, and no core is left for job 0. Both end at 2 and free
+-- their cores in one moment; job 0 starts then, and one core stays free.
+abbrev togetherAt : ℕ → Moment → Case
+togetherAt t x =
+    record {
+      cores = 2;
+      jobs = onOwnBells (stroke 0 0 4 4 3 ∷ stroke 0 0 2 2 2 ∷ stroke 0 0 2 2 1 ∷ []);
+      releases = [];
+      executions = 4 ∷ 2 ∷ 2 ∷ [];
+      moment = t;
+      expected = x;
+    }
+
+-- On three cores: jobs 1 and 2 are released at 1, and start in that moment. Job 0, released at 2, goes before them but is late for it; it takes the last
+-- core before job 3, released at 2 too, which finds one at 4.
+abbrev lastCoreAt : ℕ → Moment → Case
+lastCoreAt t x =
+    record {
+      cores = 3;
+      jobs = onOwnBells (stroke 2 2 3 3 0 ∷ stroke 1 1 3 3 2 ∷ stroke 1 1 4 4 1 ∷ stroke 2 2 1 1 9 ∷ []);
+      releases = 2 ∷ 1 ∷ 1 ∷ 2 ∷ [];
+      executions = 3 ∷ 3 ∷ 4 ∷ 1 ∷ [];
+      moment = t;
+      expected = x;
+    }
+
+-- Three jobs of one bell on two cores: job 1 is released at 4, and job 2, released at 0, waits for it, the nearest earlier one, not for job 0.
+abbrev nearestAt : ℕ → Moment → Case
+nearestAt t x =
+    record {
+      cores = 2;
+      jobs = stroke 0 0 1 1 1 7 ∷ stroke 4 4 2 2 1 7 ∷ stroke 0 0 1 1 0 7 ∷ [];
+      releases = 0 ∷ 4 ∷ 0 ∷ [];
+      executions = 1 ∷ 2 ∷ 1 ∷ [];
+      moment = t;
+      expected = x;
+    }
+
 abbrev pub table : List Case
 table =
     pAt 0 (record { statuses = waiting ∷ running 4 ∷ []; free = 0 })
@@ -60,6 +98,18 @@ table =
     ∷ bellAt 0 (record { statuses = running 3 ∷ waiting ∷ waiting ∷ []; free = 1 })
     ∷ bellAt 3 (record { statuses = done ∷ running 5 ∷ waiting ∷ []; free = 1 })
     ∷ bellAt 5 (record { statuses = done ∷ done ∷ running 6 ∷ []; free = 1 })
+    ∷ togetherAt 0 (record { statuses = waiting ∷ running 2 ∷ running 2 ∷ []; free = 0 })
+    ∷ togetherAt 1 (record { statuses = waiting ∷ running 2 ∷ running 2 ∷ []; free = 0 })
+    ∷ togetherAt 2 (record { statuses = running 6 ∷ done ∷ done ∷ []; free = 1 })
+    ∷ togetherAt 6 (record { statuses = done ∷ done ∷ done ∷ []; free = 2 })
+    ∷ lastCoreAt 0 (record { statuses = waiting ∷ waiting ∷ waiting ∷ waiting ∷ []; free = 3 })
+    ∷ lastCoreAt 1 (record { statuses = waiting ∷ running 4 ∷ running 5 ∷ waiting ∷ []; free = 1 })
+    ∷ lastCoreAt 2 (record { statuses = running 5 ∷ running 4 ∷ running 5 ∷ waiting ∷ []; free = 0 })
+    ∷ lastCoreAt 4 (record { statuses = running 5 ∷ done ∷ running 5 ∷ running 5 ∷ []; free = 0 })
+    ∷ lastCoreAt 5 (record { statuses = done ∷ done ∷ done ∷ done ∷ []; free = 3 })
+    ∷ nearestAt 3 (record { statuses = done ∷ waiting ∷ waiting ∷ []; free = 2 })
+    ∷ nearestAt 4 (record { statuses = done ∷ running 6 ∷ waiting ∷ []; free = 1 })
+    ∷ nearestAt 6 (record { statuses = done ∷ done ∷ running 7 ∷ []; free = 1 })
     ∷ []
 
 pub ran : map reached table ≡ map (λ (c : Case). c .expected) table
