@@ -33,10 +33,10 @@ cut n count = take n (set fileP 4 count)
 abbrev listing : ℕ → ℕ → List ℕ
 listing key byte = set (set (set fileP 4 0x2E) 36 0x0E) 37 key ++ byte ∷ []
 
-abbrev bell : ℕ → ℕ → ℕ → ℕ → ℕ → Bell
+abbrev pub bell : ℕ → ℕ → ℕ → ℕ → ℕ → Bell
 bell n t ca cb p = record { written = n; transposition = t; leastExecution = ca; mostExecution = cb; priority = p }
 
-abbrev note : ℕ → ℕ → ℕ → ℕ → ℕ → List ℕ → Note
+abbrev pub note : ℕ → ℕ → ℕ → ℕ → ℕ → List ℕ → Note
 note key bell ra rb d waits = record { key = key; bell = bell; earliestRelease = ra; latestRelease = rb; deadline = d; listed = waits }
 
 abbrev phrase : List Bell → List Note → Outcome Phrase
@@ -51,8 +51,27 @@ bell1 = bell 62 12 4 4 2
 abbrev note0 : Note
 note0 = note 60 0 0 5 7 []
 
+-- P with another written key and transposition of bell 1, and another key of note 1
+abbrev secondBell : ℕ → ℕ → ℕ → List ℕ
+secondBell written transposition key = set (set (set fileP 14 written) 15 transposition) 37 key
+
+abbrev withSecond : ℕ → ℕ → ℕ → Outcome Phrase
+withSecond written transposition key = phrase (bell0 ∷ bell written transposition 4 4 2 ∷ []) (note0 ∷ note key 1 0 0 6 [] ∷ [])
+
 abbrev row : List ℕ → Outcome Phrase → Case
 row f x = record { file = f; expected = x }
+
+-- P with two notes more of bell 0: note 2 lists nothing, note 3 lists 0 and 2
+abbrev pub fileQ : List ℕ
+fileQ =
+    set (set fileP 4 0x4B) 21 0x04
+    ++ (0x0D ∷ 0x3C ∷ 0x00 ∷ 0x00 ∷ 0x00 ∷ 0x01 ∷ 0x00 ∷ 0x00 ∷ 0x00 ∷ 0x02 ∷ 0x00 ∷ 0x00 ∷ 0x00 ∷ 0x09 ∷ [])
+    ++ (0x0F ∷ 0x3C ∷ 0x00 ∷ 0x01 ∷ 0x02 ∷ 0x03 ∷ 0x00 ∷ 0x04 ∷ 0x05 ∷ 0x06 ∷ 0x00 ∷ 0x07 ∷ 0x08 ∷ 0x09 ∷ 0x00 ∷ 0x02 ∷ [])
+
+abbrev pub phraseQ : Outcome Phrase
+phraseQ =
+    phrase (bell0 ∷ bell1 ∷ [])
+    (note0 ∷ note 74 1 0 0 6 [] ∷ note 60 0 1 2 9 [] ∷ note 60 0 66051 263430 460809 (0 ∷ 2 ∷ []) ∷ [])
 
 abbrev phraseP : List Case
 phraseP = row fileP (phrase (bell0 ∷ bell1 ∷ []) (note0 ∷ note 74 1 0 0 6 [] ∷ [])) ∷ []
@@ -100,8 +119,9 @@ ends =
 -- the edges of the counts, and of a bell's ranges
 abbrev bells : List Case
 bells =
-    -- nine cores, and 97 bells
+    -- nine cores, and eight; 97 bells
     row (set fileP 5 0x09) (refused 4 5)
+    ∷ row (set fileP 5 0x08) (ok (record { version = 1; cores = 8; bells = bell0 ∷ bell1 ∷ []; notes = note0 ∷ note 74 1 0 0 6 [] ∷ [] }))
     ∷ row (set fileP 6 0x61) (refused 5 6)
     -- transpositions of -12, and of 25 and -25
     ∷ row (set (set fileP 15 0xF4) 37 0x32) (phrase (bell0 ∷ bell 62 244 4 4 2 ∷ []) (note0 ∷ note 50 1 0 0 6 [] ∷ []))
@@ -109,14 +129,30 @@ bells =
     ∷ row (set fileP 15 0xE7) (refused 6 14)
     -- both bells have the written key 60, and sound for two keys
     ∷ row (set (set fileP 14 0x3C) 37 0x48) (phrase (bell0 ∷ bell 60 12 4 4 2 ∷ []) (note0 ∷ note 72 1 0 0 6 [] ∷ []))
+    -- 12 and 119 are keys: written and sounding, written only, and sounding only; each as the key of a note
+    ∷ row (secondBell 0x0C 0x00 0x0C) (withSecond 12 0 12)
+    ∷ row (secondBell 0x77 0x00 0x77) (withSecond 119 0 119)
+    ∷ row (secondBell 0x0C 0x0C 0x18) (withSecond 12 12 24)
+    ∷ row (secondBell 0x77 0xF4 0x6B) (withSecond 119 244 107)
+    ∷ row (secondBell 0x0D 0xFF 0x0C) (withSecond 13 255 12)
+    ∷ row (secondBell 0x6B 0x0C 0x77) (withSecond 107 12 119)
+    -- 11 and 120 are none, written or sounding
+    ∷ row (secondBell 0x0B 0x01 0x0C) (refused 6 14)
+    ∷ row (secondBell 0x78 0xFF 0x77) (refused 6 14)
+    ∷ row (secondBell 0x0C 0xFF 0x0B) (refused 6 14)
+    ∷ row (secondBell 0x77 0x01 0x78) (refused 6 14)
+    -- transpositions of 24 and -24
+    ∷ row (secondBell 0x3E 0x18 0x56) (withSecond 62 24 86)
+    ∷ row (secondBell 0x3E 0xE8 0x26) (withSecond 62 232 38)
     -- 119 and 12 are keys, but 119 + 12 and 12 - 1 are none
     ∷ row (set fileP 14 0x77) (refused 6 14)
     ∷ row (set (set fileP 14 0x0C) 15 0xFF) (refused 6 14)
-    -- ca is 0; ca is 3 and cb 2; cb is 5001, and 5000
+    -- ca is 0; ca is 3 and cb 2; cb is 5001, and 5000; p is 255
     ∷ row (set fileP 10 0x00) (refused 6 7)
     ∷ row (set fileP 10 0x03) (refused 6 7)
     ∷ row (set (set fileP 11 0x13) 12 0x89) (refused 6 7)
     ∷ row (set (set fileP 11 0x13) 12 0x88) (phrase (bell 60 0 2 5000 1 ∷ bell1 ∷ []) (note0 ∷ note 74 1 0 0 6 [] ∷ []))
+    ∷ row (set fileP 13 0xFF) (phrase (bell 60 0 2 2 255 ∷ bell1 ∷ []) (note0 ∷ note 74 1 0 0 6 [] ∷ []))
     ∷ []
 
 -- the edges of a note's times, and of its waits
@@ -124,16 +160,19 @@ abbrev notes : List Case
 notes =
     -- K is 0
     row (set (cut 22 0x11) 21 0x00) (phrase (bell0 ∷ bell1 ∷ []) [])
-    -- note 0: rb is 3600001, and 3600000; d is 3600001
+    -- note 0: rb is 3600001, and 3600000; d is 3600001, and 3600000
     ∷ row (set (set (set fileP 29 0x36) 30 0xEE) 31 0x81) (refused 11 22)
     ∷ row (set (set (set fileP 29 0x36) 30 0xEE) 31 0x80) (phrase (bell0 ∷ bell1 ∷ []) (note 60 0 0 3600000 7 [] ∷ note 74 1 0 0 6 [] ∷ []))
     ∷ row (set (set (set fileP 33 0x36) 34 0xEE) 35 0x81) (refused 11 22)
+    ∷ row (set (set (set fileP 33 0x36) 34 0xEE) 35 0x80) (phrase (bell0 ∷ bell1 ∷ []) (note 60 0 0 5 3600000 [] ∷ note 74 1 0 0 6 [] ∷ []))
     -- note 1 is due before its ra
     ∷ row (set (set fileP 41 0x09) 45 0x09) (phrase (bell0 ∷ bell1 ∷ []) (note0 ∷ note 74 1 9 9 6 [] ∷ []))
     -- no bell and wrong times: 10 comes before 11
     ∷ row (set (set fileP 23 0x3D) 27 0x06) (refused 10 22)
     -- note 1 lists job 0, which is also the nearest earlier job of its bell
     ∷ row (listing 0x3C 0x00) (phrase (bell0 ∷ bell1 ∷ []) (note0 ∷ note 60 0 0 0 6 (0 ∷ []) ∷ []))
+    -- two notes more, of bell 0: the last lists jobs 0 and 2, of which 2 is its bell's
+    ∷ row fileQ phraseQ
     -- note 1 lists job 0 twice, and lists five numbers
     ∷ row (set (set fileP 4 0x2F) 36 0x0F ++ 0x00 ∷ 0x00 ∷ []) (refused 12 36)
     ∷ row (set (set fileP 4 0x32) 36 0x12 ++ 0x00 ∷ 0x00 ∷ 0x00 ∷ 0x00 ∷ 0x00 ∷ []) (refused 9 36)

@@ -9,3 +9,4 @@ pub mod Valid
 pub mod Analysable
 pub mod Writing
 pub mod Examples
+pub mod RowExamples
