@@ -1,0 +1,196 @@
+-- What a check uses of its table, its verdict, its result and what document 01 writes of it, worked out by hand. Assumes nothing.
+use Prim.Native.Nat.{ℕ, _+_}
+use mathlib.Core.Path.{_≡_, refl}
+use mathlib.Core.List.{List, [], _∷_, _++_, map}
+use lib.ListN.{set, take, replicate}
+use Rattle.model.specs.Exploration.{accepted, refused, late, analysis}
+use Rattle.model.specs.Exploration.{Answer as Verdict}
+use Rattle.model.specs.States.{range}
+use Rattle.format.specs.Reading.{reading}
+use Rattle.format.specs.Examples.{fileP}
+use Rattle.checker.specs.Checking.{verdict, usedWords, perJob, checkedOf, Told, toldOf, toldFor, boundsOf}
+use Rattle.checker.specs.declared.Answer.{Answer}
+use Rattle.checker.specs.declared.Answer.the-variants.{Accepted, Refused, Late}
+use Rattle.checker.specs.declared.Checked.{Checked}
+
+-- ---- files
+
+-- a version that is not 1, and a file that ends early
+abbrev versionNine : List ℕ
+versionNine = 0x09 ∷ []
+
+abbrev threeBytes : List ℕ
+threeBytes = 0x01 ∷ 0x00 ∷ 0x00 ∷ []
+
+-- P with a byte after it, which is found to remain when all else has been read
+abbrev byteRemains : List ℕ
+byteRemains = set fileP 4 0x2E ++ 0x00 ∷ []
+
+-- P on two cores; with stroke 0 due at 6, so late; with stroke 0 called from 1 on
+abbrev onTwo : List ℕ
+onTwo = set fileP 5 0x02
+
+abbrev latePhrase : List ℕ
+latePhrase = set fileP 35 0x06
+
+abbrev calledLater : List ℕ
+calledLater = set fileP 27 0x01
+
+-- P's bells and no stroke
+abbrev noStroke : List ℕ
+noStroke = take 22 (set (set fileP 4 0x11) 21 0x00)
+
+-- ---- the words that a check may change
+
+-- a file, the length of the table, and how many of its words may hold anything afterwards
+pub record Use : Type 0 where
+  pub file : List ℕ
+  pub words : ℕ
+  pub used : ℕ
+
+abbrev lent : List ℕ → ℕ → ℕ → Use
+lent f n u = record { file = f; words = n; used = u }
+
+abbrev pub uses : List Use
+uses =
+    -- not read: none
+    lent versionNine 31 0
+    ∷ lent versionNine 16384 0
+    ∷ lent threeBytes 16384 0
+    ∷ lent byteRemains 16384 0
+    -- P: W = 2 + 2 + 4 = 8; two levels of S states take 16 * S words, and what remains is unchanged
+    ∷ lent fileP 0 0
+    ∷ lent fileP 15 0
+    ∷ lent fileP 16 16
+    ∷ lent fileP 31 16
+    ∷ lent fileP 32 32
+    ∷ lent fileP 47 32
+    ∷ lent fileP 16384 16384
+    -- a late phrase no less
+    ∷ lent latePhrase 33 32
+    -- P on two cores: W = 2 + 4 + 4 = 10; 59 = 2 * 20 + 19
+    ∷ lent onTwo 59 40
+    ∷ lent onTwo 60 60
+    -- no stroke: W = 4
+    ∷ lent noStroke 7 0
+    ∷ lent noStroke 9 8
+    ∷ []
+
+pub used-words : map (λ (u : Use). usedWords (reading (u .file)) (u .words)) uses ≡ map (λ (u : Use). u .used) uses
+unfolding reading
+used-words = refl
+
+-- ---- the verdict
+
+pub record Judged : Type 0 where
+  pub file : List ℕ
+  pub words : ℕ
+  pub due : Verdict
+
+abbrev judged : List ℕ → ℕ → Verdict → Judged
+judged f n v = record { file = f; words = n; due = v }
+
+abbrev pub verdicts : List Judged
+verdicts =
+    judged versionNine 31 (refused 1 0)
+    ∷ judged byteRemains 0 (refused 3 50)
+    -- P: half of 31 words has room for one state, half of 32 for two
+    ∷ judged fileP 15 (refused 13 0)
+    ∷ judged fileP 31 (refused 13 1)
+    ∷ judged fileP 32 (accepted (range 2 7 ∷ range 4 6 ∷ []) 4)
+    ∷ judged latePhrase 32 (late 0 6 7)
+    -- P on two cores. Level 0: twc 0; job 0 ends 2..2: {0} [0,0] [2,2]; job 1, thigh 5, ends 4..4: {1} [0,0] [4,4]. Level 1: {0}: job 1 ends 4..4: [2,2]
+    -- [4,4]; {1}: twc 5; job 0 ends 2..7: [2,4] [4,7]. They merge. Half of 39 words has room for one state, half of 40 for two.
+    ∷ judged onTwo 39 (refused 13 1)
+    ∷ judged onTwo 40 (accepted (range 2 7 ∷ range 4 4 ∷ []) 4)
+    -- stroke 0 called from 1 on. Level 0: twc 0, so job 1 starts, and ends 4..4: {1} [4,4]. Level 1: twc 5; job 0 ends 6..7.
+    ∷ judged calledLater 32 (accepted (range 6 7 ∷ range 4 4 ∷ []) 3)
+    ∷ judged noStroke 8 (accepted [] 1)
+    ∷ []
+
+pub as-judged : map (λ (j : Judged). verdict (reading (j .file)) (j .words)) verdicts ≡ map (λ (j : Judged). j .due) verdicts
+unfolding reading analysis
+as-judged = refl
+
+-- ---- the result
+
+-- a word for each of three jobs, for none, and for 64
+pub per-job : perJob 3 (λ i. i + 5) ∷ perJob 0 (λ i. i + 5) ∷ [] ≡ (5 ∷ 6 ∷ 7 ∷ replicate 61 0) ∷ replicate 64 0 ∷ []
+unfolding perJob
+per-job = refl
+
+pub per-each : perJob 64 (λ i. 1) ≡ replicate 64 1
+unfolding perJob
+per-each = refl
+
+-- zeros beside an answer
+abbrev alone : Answer → Checked
+alone a =
+    record {
+      answer = a;
+      jobs = 0;
+      earliest = replicate 64 0;
+      latest = replicate 64 0;
+      best = replicate 64 0;
+      worst = replicate 64 0;
+      states = 0;
+    }
+
+-- two words, and zeros up to 64
+abbrev both : ℕ → ℕ → List ℕ
+both x y = x ∷ y ∷ replicate 62 0
+
+pub record Resulting : Type 0 where
+  pub file : List ℕ
+  pub words : ℕ
+  pub due : Checked
+
+abbrev resulting : List ℕ → ℕ → Checked → Resulting
+resulting f n r = record { file = f; words = n; due = r }
+
+abbrev pub results : List Resulting
+results =
+    resulting fileP 32
+    (record { answer = Accepted; jobs = 2; earliest = both 2 4; latest = both 7 6; best = both 2 4; worst = both 7 6; states = 4 })
+    -- stroke 0 is called from 1 on, and its responses are its ends less 1
+    ∷ resulting calledLater 32
+    (record { answer = Accepted; jobs = 2; earliest = both 6 4; latest = both 7 4; best = both 5 4; worst = both 6 4; states = 3 })
+    ∷ resulting noStroke 8
+    (record {
+      answer = Accepted;
+      jobs = 0;
+      earliest = replicate 64 0;
+      latest = replicate 64 0;
+      best = replicate 64 0;
+      worst = replicate 64 0;
+      states = 1;
+    })
+    ∷ resulting versionNine 32 (alone (Refused 1 0))
+    ∷ resulting byteRemains 32 (alone (Refused 3 50))
+    ∷ resulting fileP 31 (alone (Refused 13 1))
+    ∷ resulting latePhrase 32 (alone (Late 0 6 7))
+    ∷ []
+
+pub as-resulting : map (λ (r : Resulting). checkedOf (reading (r .file)) (r .words)) results ≡ map (λ (r : Resulting). r .due) results
+unfolding reading analysis perJob
+as-resulting = refl
+
+-- the bounds that it reports: a range for each stroke, none where it has none
+pub bounds-reported :
+    map (λ (r : Resulting). boundsOf (r .due)) results
+    ≡ (range 2 7 ∷ range 4 6 ∷ []) ∷ (range 6 7 ∷ range 4 4 ∷ []) ∷ [] ∷ [] ∷ [] ∷ [] ∷ [] ∷ []
+unfolding boundsOf
+bounds-reported = refl
+
+-- ---- what document 01 writes of an answer: number, place, and of a late stroke its ends
+
+abbrev told : ℕ → ℕ → ℕ → ℕ → Told
+told n at e f = record { number = n; place = at; earliest = e; latest = f }
+
+pub answers-told : map toldOf (Accepted ∷ Refused 4 5 ∷ Refused 13 1 ∷ Late 3 6 7 ∷ []) ≡ told 0 0 0 0 ∷ told 4 5 0 0 ∷ told 13 1 0 0 ∷ told 14 3 6 7 ∷ []
+answers-told = refl
+
+pub verdicts-told :
+    map toldFor (accepted (range 2 7 ∷ []) 4 ∷ refused 4 5 ∷ refused 13 1 ∷ late 3 6 7 ∷ [])
+    ≡ told 0 0 0 0 ∷ told 4 5 0 0 ∷ told 13 1 0 0 ∷ told 14 3 6 7 ∷ []
+verdicts-told = refl
