@@ -16,28 +16,28 @@ use Rattle.checker.specs.declared.Checked.{Checked}
 -- ---- files
 
 -- a version that is not 1, and a file that ends early
-abbrev versionNine : List ℕ
+abbrev pub versionNine : List ℕ
 versionNine = 0x09 ∷ []
 
-abbrev threeBytes : List ℕ
+abbrev pub threeBytes : List ℕ
 threeBytes = 0x01 ∷ 0x00 ∷ 0x00 ∷ []
 
 -- P with a byte after it, which is found to remain when all else has been read
-abbrev byteRemains : List ℕ
+abbrev pub byteRemains : List ℕ
 byteRemains = set fileP 4 0x2E ++ 0x00 ∷ []
 
 -- P on two cores; with stroke 0 due at 6, so late; with stroke 0 called from 1 on
-abbrev onTwo : List ℕ
+abbrev pub onTwo : List ℕ
 onTwo = set fileP 5 0x02
 
-abbrev latePhrase : List ℕ
+abbrev pub latePhrase : List ℕ
 latePhrase = set fileP 35 0x06
 
-abbrev calledLater : List ℕ
+abbrev pub calledLater : List ℕ
 calledLater = set fileP 27 0x01
 
 -- P's bells and no stroke
-abbrev noStroke : List ℕ
+abbrev pub noStroke : List ℕ
 noStroke = take 22 (set (set fileP 4 0x11) 21 0x00)
 
 -- ---- the words that a check may change
@@ -124,7 +124,7 @@ unfolding perJob
 per-each = refl
 
 -- zeros beside an answer
-abbrev alone : Answer → Checked
+abbrev pub alone : Answer → Checked
 alone a =
     record {
       answer = a;
@@ -137,7 +137,7 @@ alone a =
     }
 
 -- two words, and zeros up to 64
-abbrev both : ℕ → ℕ → List ℕ
+abbrev pub both : ℕ → ℕ → List ℕ
 both x y = x ∷ y ∷ replicate 62 0
 
 pub record Resulting : Type 0 where
@@ -184,7 +184,7 @@ bounds-reported = refl
 
 -- ---- what document 01 writes of an answer: number, place, and of a late stroke its ends
 
-abbrev told : ℕ → ℕ → ℕ → ℕ → Told
+abbrev pub told : ℕ → ℕ → ℕ → ℕ → Told
 told n at e f = record { number = n; place = at; earliest = e; latest = f }
 
 pub answers-told : map toldOf (Accepted ∷ Refused 4 5 ∷ Refused 13 1 ∷ Late 3 6 7 ∷ []) ≡ told 0 0 0 0 ∷ told 4 5 0 0 ∷ told 13 1 0 0 ∷ told 14 3 6 7 ∷ []

@@ -4,3 +4,4 @@ pub mod Report
 pub mod Longest
 pub mod Rows
 pub mod Examples
+pub mod Buffers
