@@ -99,6 +99,9 @@ abbrev ends : List Case
 ends =
     -- the empty file has no version to be wrong
     row [] (refused 2 0)
+    -- a count that is right in its last byte only
+    ∷ row (set fileP 1 0x01) (refused 2 0)
+    ∷ row (set fileP 3 0x01) (refused 2 0)
     -- m is missing
     ∷ row (cut 5 0x00) (refused 3 5)
     -- a bell record is cut: 3 comes before 6 and 7
@@ -165,6 +168,8 @@ notes =
     ∷ row (set (set (set fileP 29 0x36) 30 0xEE) 31 0x80) (phrase (bell0 ∷ bell1 ∷ []) (note 60 0 0 3600000 7 [] ∷ note 74 1 0 0 6 [] ∷ []))
     ∷ row (set (set (set fileP 33 0x36) 34 0xEE) 35 0x81) (refused 11 22)
     ∷ row (set (set (set fileP 33 0x36) 34 0xEE) 35 0x80) (phrase (bell0 ∷ bell1 ∷ []) (note 60 0 0 5 3600000 [] ∷ note 74 1 0 0 6 [] ∷ []))
+    -- an rb of 16777221, right in its last bytes only
+    ∷ row (set fileP 28 0x01) (refused 11 22)
     -- note 1 is due before its ra
     ∷ row (set (set fileP 41 0x09) 45 0x09) (phrase (bell0 ∷ bell1 ∷ []) (note0 ∷ note 74 1 9 9 6 [] ∷ []))
     -- no bell and wrong times: 10 comes before 11

@@ -6,10 +6,10 @@ use mathlib.Core.List.{List, [], _∷_, map}
 use native.Mathlib.Omega.{arith}
 use lib.Dec.{ltb}
 use lib.ListN.{getD}
-use Rattle.model.specs.Folds.{member, largest}
+use Rattle.model.specs.Folds.{member, largest, all}
 use Rattle.model.specs.Jobs.{Job}
 use Rattle.model.specs.Dispatch.{Scenario, waiting, running, done, status, run}
-use Rattle.model.specs.States.{Range, empty, range}
+use Rattle.model.specs.States.{Range, empty, range, latest}
 use Rattle.model.specs.Guarantee.{WellFormed, Admissible, statusAt, Contains, Overlap, Kept}
 use Rattle.model.specs.Marked.{stroke, onOwnBells, m1, phraseP}
 use Rattle.model.specs.Marked.{waiting as waits}
@@ -138,12 +138,12 @@ statuses = refl
 abbrev within : List Range
 within = range 2 7 ∷ range 4 6 ∷ []
 
--- a job that starts at 4 and finishes at 6 waits at 3, runs at 4 and 5, and is done at 6
-pub kept-once : (s : Scenario) (k : Kept (phraseP 7) 1 within s) → k .start 0 ≡ 4 → k .finish 0 ≡ 6
-    → map (λ t. status (run (phraseP 7) 1 s t .statuses) 0) (3 ∷ 4 ∷ 5 ∷ 6 ∷ []) ≡ waiting ∷ running 6 ∷ running 6 ∷ done ∷ []
+-- a job that starts at 2 and finishes at 6 waits at 1, runs from 2 to 5, and is done at 6
+pub kept-once : (s : Scenario) (k : Kept (phraseP 7) 1 within s) → k .start 1 ≡ 2 → k .finish 1 ≡ 6
+    → map (λ t. status (run (phraseP 7) 1 s t .statuses) 1) (1 ∷ 2 ∷ 5 ∷ 6 ∷ []) ≡ waiting ∷ running 6 ∷ running 6 ∷ done ∷ []
 unfolding statusAt
 kept-once s k b e =
-    rw (k .once 0 (omega arith) 3, k .once 0 (omega arith) 4, k .once 0 (omega arith) 5, k .once 0 (omega arith) 6, b, e) refl
+    rw (k .once 1 (omega arith) 1, k .once 1 (omega arith) 2, k .once 1 (omega arith) 5, k .once 1 (omega arith) 6, b, e) refl
 
 -- it starts at or after its release, and finishes when it has executed
 pub kept-released : (s : Scenario) (k : Kept (phraseP 7) 1 within s) → s .release 1 ≡ 3 → 3 ≤ k .start 1
@@ -160,6 +160,12 @@ kept-bounded s k = omega (arith, k .bounded 0 (omega arith), k .bounded 1 (omega
 -- it is in time even where the bounds would allow more
 pub kept-timely : (s : Scenario) (k : Kept (phraseP 7) 1 (range 0 9 ∷ range 0 9 ∷ []) s) → (k .finish 0 ≤ 7) × (k .finish 1 ≤ 6)
 kept-timely s k = omega (arith, k .timely 0 (omega arith), k .timely 1 (omega arith))
+
+-- the largest of the latest finish times; 0 where there is none
+pub largest-latest :
+    largest all latest (range 2 7 ∷ range 4 6 ∷ []) ∷ largest all latest (range 4 6 ∷ empty ∷ range 2 7 ∷ []) ∷ largest all latest [] ∷ [] ≡ 7 ∷ 7 ∷ 0 ∷ []
+unfolding largest
+largest-latest = refl
 
 -- from 7 on, the largest latest finish time, every job is done
 pub kept-quiet : (s : Scenario) (k : Kept (phraseP 7) 1 within s) (t : ℕ) → 7 ≤ t
@@ -183,8 +189,11 @@ kept-apart-turned s bounds k r =
 
 -- ---- runs that are not kept: P on one core, its job 0 released at 1, which runs from 4 until 6
 
-abbrev later : Scenario
+abbrev pub later : Scenario
 later = scenario (1 ∷ 0 ∷ []) (2 ∷ 4 ∷ [])
+
+pub later-admissible : Admissible (phraseP 7) later
+later-admissible = record { releases = of-two _ (omega arith) (omega arith); executions = of-two _ (omega arith) (omega arith) }
 
 runs-until : (b c : Bool) (f g : ℕ) → running g ≡ cond b waiting (cond c (running f) done) → f ≡ g
 runs-until true c f g e = absurd (let z : _≡_ {A = ℕ} 0 1 = cc in omega arith)

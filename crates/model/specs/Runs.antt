@@ -86,6 +86,18 @@ nearestAt t x =
       expected = x;
     }
 
+-- Job 2 lists jobs 0 and 1, and waits until both are done, though the third core is free.
+abbrev bothAt : ℕ → Moment → Case
+bothAt t x =
+    record {
+      cores = 3;
+      jobs = onOwnBells (stroke 0 0 1 1 1 ∷ stroke 0 0 3 3 1 ∷ dueWaiting 9 (0 ∷ 1 ∷ []) 0 0 1 1 0 ∷ []);
+      releases = [];
+      executions = 1 ∷ 3 ∷ 1 ∷ [];
+      moment = t;
+      expected = x;
+    }
+
 abbrev pub table : List Case
 table =
     pAt 0 (record { statuses = waiting ∷ running 4 ∷ []; free = 0 })
@@ -110,6 +122,8 @@ table =
     ∷ nearestAt 3 (record { statuses = done ∷ waiting ∷ waiting ∷ []; free = 2 })
     ∷ nearestAt 4 (record { statuses = done ∷ running 6 ∷ waiting ∷ []; free = 1 })
     ∷ nearestAt 6 (record { statuses = done ∷ done ∷ running 7 ∷ []; free = 1 })
+    ∷ bothAt 1 (record { statuses = done ∷ running 3 ∷ waiting ∷ []; free = 2 })
+    ∷ bothAt 3 (record { statuses = done ∷ done ∷ running 4 ∷ []; free = 2 })
     ∷ []
 
 pub ran : map reached table ≡ map (λ (c : Case). c .expected) table

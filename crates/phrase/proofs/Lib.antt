@@ -1,2 +1,3 @@
 -- What the number that a host gets says.
 pub mod Numbers
+pub mod Example

@@ -1,2 +1,3 @@
 -- What a host gets.
 pub mod Host
+pub mod Examples

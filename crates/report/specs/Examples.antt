@@ -1,5 +1,5 @@
 -- Lines of document 01, and of what they leave open, computed. Assumes nothing.
-use Prim.Native.Nat.{ℕ, zero, suc}
+use Prim.Native.Nat.{ℕ, zero, suc, _+_}
 use mathlib.Core.Path.{_≡_, refl}
 use mathlib.Core.List.{List, [], _∷_, _++_}
 use Rattle.text.specs.Bytes.{bytes}
@@ -39,6 +39,8 @@ examples =
     ∷ record { given = keyText 12; due = bytes "C0" }
     ∷ record { given = keyText 61; due = bytes "C#4" }
     ∷ record { given = keyText 70; due = bytes "A#4" }
+    -- the keys 60 to 72
+    ∷ record { given = lines (λ i. keyText (60 + i)) 13; due = bytes "C4C#4D4D#4E4F4F#4G4G#4A4A#4B4C5" }
     ∷ record { given = decimal 18446744073709551615; due = bytes "18446744073709551615" }
     ∷ []
 
