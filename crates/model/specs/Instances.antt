@@ -1,10 +1,10 @@
 -- What the statements of Guarantee hold of, and what not: instances at their borders, each by itself. Assumes nothing.
 use Prim.Native.Nat.{ℕ, zero, suc, _+_, _≤_, _<_}
 use mathlib.Core.Path.{_≡_, refl}
-use mathlib.Core.Bool.{Bool, true, false, cond}
+use mathlib.Core.Bool.{Bool, true, false, cond, false≢true}
 use mathlib.Core.List.{List, [], _∷_, map}
 use native.Mathlib.Omega.{arith}
-use lib.Dec.{ltb}
+use lib.Dec.{ltb, eqb·suc-zero}
 use lib.ListN.{getD}
 use Rattle.model.specs.Folds.{member, largest, all}
 use Rattle.model.specs.Jobs.{Job}
@@ -114,7 +114,20 @@ lone-executes-short a = omega (arith, a .executions 0 (omega arith))
 pub lone-executes-long : Admissible lone (scenario (2 ∷ []) (5 ∷ [])) → ⊥
 lone-executes-long a = omega (arith, a .executions 0 (omega arith))
 
--- ---- phrases that are not well-formed
+-- ---- phrases that are well-formed, and that are not
+
+listed-zero : (w : ℕ) → member w (0 ∷ []) ≡ true → w < 1
+unfolding member
+listed-zero zero e = omega arith
+listed-zero (suc w) e = absurd (false≢true (rw (eqb·suc-zero w) at e))
+
+listed-none : (w : ℕ) → member w [] ≡ true → w < 0
+unfolding member
+listed-none w e = absurd (false≢true e)
+
+-- one core, executions of a millisecond, and job 1 lists the number below its own
+pub barely : WellFormed (onOwnBells (stroke 0 0 1 1 1 ∷ waits (0 ∷ []) 0 0 1 1 1 ∷ [])) 1
+barely = record { cores = omega arith; lasts = of-two _ (omega arith) (omega arith); earlier = of-two _ listed-none listed-zero }
 
 pub no-core : WellFormed lone 0 → ⊥
 no-core w = omega (arith, w .cores)
@@ -163,7 +176,7 @@ kept-timely s k = omega (arith, k .timely 0 (omega arith), k .timely 1 (omega ar
 
 -- the largest of the latest finish times; 0 where there is none
 pub largest-latest :
-    largest all latest (range 2 7 ∷ range 4 6 ∷ []) ∷ largest all latest (range 4 6 ∷ empty ∷ range 2 7 ∷ []) ∷ largest all latest [] ∷ [] ≡ 7 ∷ 7 ∷ 0 ∷ []
+    map (largest all latest) ((range 2 7 ∷ range 4 6 ∷ []) ∷ (range 4 6 ∷ range 2 7 ∷ []) ∷ [] ∷ (empty ∷ []) ∷ []) ≡ 7 ∷ 7 ∷ 0 ∷ 0 ∷ []
 unfolding largest
 largest-latest = refl
 
