@@ -102,6 +102,7 @@ lone-least = record { releases = of-one _ (omega arith); executions = of-one _ (
 pub lone-most : Admissible lone (scenario (5 ∷ []) (4 ∷ []))
 lone-most = record { releases = of-one _ (omega arith); executions = of-one _ (omega arith) }
 
+-- one past each border: released at 1 and at 6, executing for 2 and for 5
 pub lone-released-early : Admissible lone (scenario (1 ∷ []) (3 ∷ [])) → ⊥
 lone-released-early a = omega (arith, a .releases 0 (omega arith))
 
@@ -129,6 +130,7 @@ listed-none w e = absurd (false≢true e)
 pub barely : WellFormed (onOwnBells (stroke 0 0 1 1 1 ∷ waits (0 ∷ []) 0 0 1 1 1 ∷ [])) 1
 barely = record { cores = omega arith; lasts = of-two _ (omega arith) (omega arith); earlier = of-two _ listed-none listed-zero }
 
+-- no core, and an execution that takes no time
 pub no-core : WellFormed lone 0 → ⊥
 no-core w = omega (arith, w .cores)
 
