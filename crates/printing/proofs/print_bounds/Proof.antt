@@ -2,8 +2,8 @@
 use borrow.Author.Needs.{needs}
 use Prim.Native.Nat.{_-_}
 use lib.ListN.{length}
-use Rattle.checker_examples.proofs.print_bounds.Statement.{statement}
-use Rattle.checker_examples.proofs.print_bounds.Tie as tie
+use Rattle.printing.proofs.print_bounds.Statement.{statement}
+use Rattle.printing.proofs.print_bounds.Tie as tie
 
 abbrev Inv-loop : tie.InvT-loop
 Inv-loop name words k clear₀ i₀ t6 t7 clear i = Unit {0}
