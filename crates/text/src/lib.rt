@@ -44,16 +44,16 @@ fn few_digits(n: u64) -> usize
     requires { ⌜ n < 10000 ⌝ }
     ensures { λ r. ⌜ r ≡ length (decimal n) ⌝ }
 {
-    if n < 10 {
-        return 1;
+    if 1000 <= n {
+        return 4;
     }
-    if n < 100 {
-        return 2;
-    }
-    if n < 1000 {
+    if 100 <= n {
         return 3;
     }
-    4
+    if 10 <= n {
+        return 2;
+    }
+    1
 }
 
 // How many digits n has. Four at a time: most numbers of a report then take no division.
