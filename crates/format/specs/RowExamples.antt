@@ -6,7 +6,8 @@ use mathlib.Core.List.{List, [], _∷_, _++_, map}
 use mathlib.Core.Option.{none, some}
 use native.Mathlib.Omega.{arith}
 use lib.ListN.{replicate}
-use Rattle.model.specs.Jobs.{Job, predecessors}
+use Rattle.model.specs.Jobs.{predecessors}
+use Rattle.model.specs.Marked.{dueWaiting, due}
 use Rattle.format.specs.Phrase.{Bell, sounding, Note, Phrase, jobsOf}
 use Rattle.format.specs.Reading.{Outcome, ok, refused, reading, bellInRange, findFrom, areTimes, rises}
 use Rattle.format.specs.Rows.{bellRows, jobRowsFrom, bellTable, jobTable}
@@ -43,22 +44,10 @@ pub q-read : reading fileQ ≡ ok q
 unfolding reading
 q-read = refl
 
-abbrev timed : ℕ → ℕ → ℕ → ℕ → ℕ → ℕ → ℕ → List ℕ → Job
-timed ra rb ca cb d p bell waits =
-    record {
-      earliestRelease = ra;
-      latestRelease = rb;
-      leastExecution = ca;
-      mostExecution = cb;
-      deadline = d;
-      priority = p;
-      bell = bell;
-      listed = waits;
-    }
-
 -- the bell gives hold range and rank, the note the rest
 pub q-jobs :
-    jobsOf q ≡ timed 0 5 2 2 7 1 0 [] ∷ timed 0 0 4 4 6 2 1 [] ∷ timed 1 2 2 2 9 1 0 [] ∷ timed 66051 263430 2 2 460809 1 0 (0 ∷ 2 ∷ []) ∷ []
+    jobsOf q
+    ≡ due 7 0 5 2 2 1 0 ∷ due 6 0 0 4 4 2 1 ∷ due 9 1 2 2 2 1 0 ∷ dueWaiting 460809 (0 ∷ 2 ∷ []) 66051 263430 2 2 1 0 ∷ []
 q-jobs = refl
 
 -- job 2 waits for job 0 of its bell; job 3 for those that it lists, and once more for job 2 of its bell
