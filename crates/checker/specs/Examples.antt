@@ -6,7 +6,8 @@ use lib.ListN.{set, take, replicate}
 use Rattle.model.specs.Exploration.{accepted, refused, late, analysis}
 use Rattle.model.specs.Exploration.{Answer as Verdict}
 use Rattle.model.specs.States.{range}
-use Rattle.format.specs.Reading.{reading}
+use Rattle.format.specs.Phrase.{Phrase}
+use Rattle.format.specs.Reading.{Outcome, reading}
 use Rattle.format.specs.Examples.{fileP}
 use Rattle.checker.specs.Checking.{verdict, usedWords, perJob, checkedOf, Told, toldOf, toldFor, boundsOf}
 use Rattle.checker.specs.declared.Answer.{Answer}
@@ -40,18 +41,29 @@ calledLater = set fileP 27 0x01
 abbrev pub noStroke : List ℕ
 noStroke = take 22 (set (set fileP 4 0x11) 21 0x00)
 
--- ---- the words that a check may change
+-- ---- what is due for a file and a table
 
--- a file, the length of the table, and how many of its words may hold anything afterwards
-pub record Use : Type 0 where
+-- a file, the length of the lent table, and what is due
+pub record Case (A : Type 0) : Type 0 where
   pub file : List ℕ
   pub words : ℕ
-  pub used : ℕ
+  pub due : A
 
-abbrev lent : List ℕ → ℕ → ℕ → Use
-lent f n u = record { file = f; words = n; used = u }
+abbrev pub lent : {A : Type 0} → List ℕ → ℕ → A → Case A
+lent f n x = record { file = f; words = n; due = x }
 
-abbrev pub uses : List Use
+abbrev pub dues : {A : Type 0} → List (Case A) → List A
+dues [] = []
+dues (c ∷ cs) = c .due ∷ dues cs
+
+-- what a function of the reading and of the table's length gives for them
+abbrev pub given : {A : Type 0} → (Outcome Phrase → ℕ → A) → List (Case A) → List A
+given f [] = []
+given f (c ∷ cs) = f (reading (c .file)) (c .words) ∷ given f cs
+
+-- ---- the words that a check may change: so many, from the first on
+
+abbrev pub uses : List (Case ℕ)
 uses =
     -- not read: none
     lent versionNine 31 0
@@ -76,39 +88,31 @@ uses =
     ∷ lent noStroke 9 8
     ∷ []
 
-pub used-words : map (λ (u : Use). usedWords (reading (u .file)) (u .words)) uses ≡ map (λ (u : Use). u .used) uses
+pub used-words : given usedWords uses ≡ dues uses
 unfolding reading
 used-words = refl
 
 -- ---- the verdict
 
-pub record Judged : Type 0 where
-  pub file : List ℕ
-  pub words : ℕ
-  pub due : Verdict
-
-abbrev judged : List ℕ → ℕ → Verdict → Judged
-judged f n v = record { file = f; words = n; due = v }
-
-abbrev pub verdicts : List Judged
+abbrev pub verdicts : List (Case Verdict)
 verdicts =
-    judged versionNine 31 (refused 1 0)
-    ∷ judged byteRemains 0 (refused 3 50)
+    lent versionNine 31 (refused 1 0)
+    ∷ lent byteRemains 0 (refused 3 50)
     -- P: half of 31 words has room for one state, half of 32 for two
-    ∷ judged fileP 15 (refused 13 0)
-    ∷ judged fileP 31 (refused 13 1)
-    ∷ judged fileP 32 (accepted (range 2 7 ∷ range 4 6 ∷ []) 4)
-    ∷ judged latePhrase 32 (late 0 6 7)
+    ∷ lent fileP 15 (refused 13 0)
+    ∷ lent fileP 31 (refused 13 1)
+    ∷ lent fileP 32 (accepted (range 2 7 ∷ range 4 6 ∷ []) 4)
+    ∷ lent latePhrase 32 (late 0 6 7)
     -- P on two cores. Level 0: twc 0; job 0 ends 2..2: {0} [0,0] [2,2]; job 1, thigh 5, ends 4..4: {1} [0,0] [4,4]. Level 1: {0}: job 1 ends 4..4: [2,2]
     -- [4,4]; {1}: twc 5; job 0 ends 2..7: [2,4] [4,7]. They merge. Half of 39 words has room for one state, half of 40 for two.
-    ∷ judged onTwo 39 (refused 13 1)
-    ∷ judged onTwo 40 (accepted (range 2 7 ∷ range 4 4 ∷ []) 4)
+    ∷ lent onTwo 39 (refused 13 1)
+    ∷ lent onTwo 40 (accepted (range 2 7 ∷ range 4 4 ∷ []) 4)
     -- stroke 0 called from 1 on. Level 0: twc 0, so job 1 starts, and ends 4..4: {1} [4,4]. Level 1: twc 5; job 0 ends 6..7.
-    ∷ judged calledLater 32 (accepted (range 6 7 ∷ range 4 4 ∷ []) 3)
-    ∷ judged noStroke 8 (accepted [] 1)
+    ∷ lent calledLater 32 (accepted (range 6 7 ∷ range 4 4 ∷ []) 3)
+    ∷ lent noStroke 8 (accepted [] 1)
     ∷ []
 
-pub as-judged : map (λ (j : Judged). verdict (reading (j .file)) (j .words)) verdicts ≡ map (λ (j : Judged). j .due) verdicts
+pub as-judged : given verdict verdicts ≡ dues verdicts
 unfolding reading analysis
 as-judged = refl
 
@@ -140,22 +144,14 @@ alone a =
 abbrev pub both : ℕ → ℕ → List ℕ
 both x y = x ∷ y ∷ replicate 62 0
 
-pub record Resulting : Type 0 where
-  pub file : List ℕ
-  pub words : ℕ
-  pub due : Checked
-
-abbrev resulting : List ℕ → ℕ → Checked → Resulting
-resulting f n r = record { file = f; words = n; due = r }
-
-abbrev pub results : List Resulting
+abbrev pub results : List (Case Checked)
 results =
-    resulting fileP 32
+    lent fileP 32
     (record { answer = Accepted; jobs = 2; earliest = both 2 4; latest = both 7 6; best = both 2 4; worst = both 7 6; states = 4 })
     -- stroke 0 is called from 1 on, and its responses are its ends less 1
-    ∷ resulting calledLater 32
+    ∷ lent calledLater 32
     (record { answer = Accepted; jobs = 2; earliest = both 6 4; latest = both 7 4; best = both 5 4; worst = both 6 4; states = 3 })
-    ∷ resulting noStroke 8
+    ∷ lent noStroke 8
     (record {
       answer = Accepted;
       jobs = 0;
@@ -165,19 +161,19 @@ results =
       worst = replicate 64 0;
       states = 1;
     })
-    ∷ resulting versionNine 32 (alone (Refused 1 0))
-    ∷ resulting byteRemains 32 (alone (Refused 3 50))
-    ∷ resulting fileP 31 (alone (Refused 13 1))
-    ∷ resulting latePhrase 32 (alone (Late 0 6 7))
+    ∷ lent versionNine 32 (alone (Refused 1 0))
+    ∷ lent byteRemains 32 (alone (Refused 3 50))
+    ∷ lent fileP 31 (alone (Refused 13 1))
+    ∷ lent latePhrase 32 (alone (Late 0 6 7))
     ∷ []
 
-pub as-resulting : map (λ (r : Resulting). checkedOf (reading (r .file)) (r .words)) results ≡ map (λ (r : Resulting). r .due) results
+pub as-resulting : given checkedOf results ≡ dues results
 unfolding reading analysis perJob
 as-resulting = refl
 
 -- the bounds that it reports: a range for each stroke, none where it has none
 pub bounds-reported :
-    map (λ (r : Resulting). boundsOf (r .due)) results
+    map boundsOf (dues results)
     ≡ (range 2 7 ∷ range 4 6 ∷ []) ∷ (range 6 7 ∷ range 4 4 ∷ []) ∷ [] ∷ [] ∷ [] ∷ [] ∷ [] ∷ []
 unfolding boundsOf
 bounds-reported = refl

@@ -10,7 +10,7 @@ use Rattle.format.specs.Phrase.{Phrase}
 use Rattle.format.specs.Reading.{ok, reading}
 use Rattle.format.specs.Reading.{refused as unread}
 use Rattle.format.specs.Examples.{fileP}
-use Rattle.checker.specs.Examples.{versionNine, byteRemains, latePhrase, told}
+use Rattle.checker.specs.Examples.{versionNine, byteRemains, latePhrase, Case, lent, dues, given, told}
 use Rattle.phrase.specs.Host.{tableWords, places, numberOf, numberFor, Playable}
 
 -- a table of 16,384 words, and two to the 32nd places
@@ -23,30 +23,22 @@ pub numbers :
     ≡ 0 ∷ 17179869189 ∷ 55834574849 ∷ 60129542147 ∷ []
 numbers = refl
 
--- a file, the length of the table, and the number that is due
-pub record Case : Type 0 where
-  pub file : List ℕ
-  pub words : ℕ
-  pub due : ℕ
-
-abbrev row : List ℕ → ℕ → ℕ → Case
-row f n x = record { file = f; words = n; due = x }
-
-abbrev pub table : List Case
+-- files and tables, and the number that is due
+abbrev pub table : List (Case ℕ)
 table =
-    row fileP 32 0
-    ∷ row fileP tableWords 0
+    lent fileP 32 0
+    ∷ lent fileP tableWords 0
     -- 13 at level 1, and at level 0
-    ∷ row fileP 31 55834574849
-    ∷ row fileP 0 55834574848
+    ∷ lent fileP 31 55834574849
+    ∷ lent fileP 0 55834574848
     -- 14 with stroke 0
-    ∷ row latePhrase 32 60129542144
+    ∷ lent latePhrase 32 60129542144
     -- 1 at 0, and 3 at 50
-    ∷ row versionNine 0 4294967296
-    ∷ row byteRemains 32 12884901938
+    ∷ lent versionNine 0 4294967296
+    ∷ lent byteRemains 32 12884901938
     ∷ []
 
-pub as-due : map (λ (c : Case). numberFor (reading (c .file)) (c .words)) table ≡ map (λ (c : Case). c .due) table
+pub as-due : given numberFor table ≡ dues table
 unfolding reading analysis
 as-due = refl
 

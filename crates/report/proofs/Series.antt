@@ -46,7 +46,7 @@ shorter f i n h false e next =
     omega (arith, ap (λ (k : ℕ). length (lines f k)) same)
 
 -- fewer lines are not longer
-pub lines-shorter : (f : ℕ → List ℕ) (i n : ℕ) → i ≤ n → length (lines f i) ≤ length (lines f n)
+lines-shorter : (f : ℕ → List ℕ) (i n : ℕ) → i ≤ n → length (lines f i) ≤ length (lines f n)
 lines-shorter f i zero h =
     let none : i ≡ 0 = omega arith in
     omega (arith, ap (λ (k : ℕ). length (lines f k)) none)

@@ -10,7 +10,7 @@ use Rattle.format.specs.Examples.{fileP}
 use Rattle.text.specs.Bytes.{bytes}
 use Rattle.text.specs.Decimal.{decimalWithin}
 use Rattle.checker.specs.Checking.{perJob, Told}
-use Rattle.checker.specs.Examples.{versionNine, latePhrase, calledLater, noStroke, alone, both, told}
+use Rattle.checker.specs.Examples.{versionNine, latePhrase, calledLater, noStroke, Case, lent, dues, given, alone, both, told}
 use Rattle.checker.specs.declared.Answer.the-variants.{Accepted, Refused, Late}
 use Rattle.checker.specs.declared.Checked.{Checked}
 use Rattle.report.specs.Lines.{strokeLine, lines, acceptedLine, refusedLine, lateLine}
@@ -29,31 +29,22 @@ textP =
 abbrev longerHold : List ℕ
 longerHold = set (set (set fileP 12 0x03) 35 0x08) 49 0x09
 
--- a file, the length of the table, and the text that is due
-pub record Text : Type 0 where
-  pub file : List ℕ
-  pub words : ℕ
-  pub due : List ℕ
-
-abbrev text : List ℕ → ℕ → List ℕ → Text
-text f n t = record { file = f; words = n; due = t }
-
-abbrev pub texts : List Text
+abbrev pub texts : List (Case (List ℕ))
 texts =
-    text fileP 32 textP
-    ∷ text fileP 31 (bytes "refused 13 level 1\n")
-    ∷ text latePhrase 32 (bytes "refused 14 stroke 0 ends 6..7\n")
-    ∷ text versionNine 32 (bytes "refused 1 at 0\n")
+    lent fileP 32 textP
+    ∷ lent fileP 31 (bytes "refused 13 level 1\n")
+    ∷ lent latePhrase 32 (bytes "refused 14 stroke 0 ends 6..7\n")
+    ∷ lent versionNine 32 (bytes "refused 1 at 0\n")
     -- stroke 0 is called from 1 on
-    ∷ text calledLater 32
+    ∷ lent calledLater 32
     (bytes "stroke 0 key C4 bell 0 ends 6..7 response 5..6 due 7\nstroke 1 key D5 bell 1 ends 4..4 response 4..4 due 6\naccepted strokes 2 states 3 hold 6\n")
     -- the last line adds up the longest holds
-    ∷ text longerHold 32
+    ∷ lent longerHold 32
     (bytes "stroke 0 key C4 bell 0 ends 2..8 response 2..8 due 8\nstroke 1 key D5 bell 1 ends 4..7 response 4..7 due 9\naccepted strokes 2 states 4 hold 7\n")
-    ∷ text noStroke 8 (bytes "accepted strokes 0 states 1 hold 0\n")
+    ∷ lent noStroke 8 (bytes "accepted strokes 0 states 1 hold 0\n")
     ∷ []
 
-pub as-written : map (λ (x : Text). textOf (reading (x .file)) (x .words)) texts ≡ map (λ (x : Text). x .due) texts
+pub as-written : given textOf texts ≡ dues texts
 unfolding reading analysis strokeLine lines acceptedLine refusedLine lateLine sum decimalWithin
 as-written = refl
 

@@ -7,6 +7,7 @@ use lib.ListN.{length, length-append}
 use Rattle.words.proofs.Placing.{placed-append, length-placed}
 use Rattle.text.specs.Written.{Room, Written}
 
+-- a place from which on there is room lies in the buffer, or at its end
 pub within : {before : List ℕ} {at : ℕ} {s : List ℕ} → Room before at s → at ≤ length before
 within h = omega (arith, h .fits)
 
