@@ -11,9 +11,10 @@ use Rattle.model.specs.Limits.{latestTime}
 use Rattle.model.specs.Jobs.{Job}
 use Rattle.model.specs.States.{State}
 use Rattle.model.specs.Exploration.{Exploration, going, full, miss, tryJobs, tryStates, stateWords}
-use Rattle.model.proofs.Bounds.{Bounded}
+use Rattle.model.specs.internal.Bounds.{Bounded}
 use Rattle.words.specs.Tabulate.{tabulate}
-use Rattle.words.proofs.Parts.{part, part-length, part-same, length-put}
+use Rattle.words.proofs.Parts.{part-length, part-same, length-put}
+use Rattle.words.specs.internal.Parts.{part}
 use Rattle.jobs.specs.Rows.{jobsOf}
 use Rattle.jobs.proofs.Jobs.{length-jobs}
 use Rattle.states.specs.Slots.{setOf, stateOf, slotOf, statesOf, Sound}

@@ -9,10 +9,11 @@ use native.Mathlib.Omega.{arith}
 use lib.ListN.{length, drop}
 use borrow.Rule.Slice.PartMut.{putMid}
 use Rattle.model.specs.Jobs.{Job}
-use Rattle.model.specs.Exploration.{Exploration, going, full, miss, tryStates, counted, nextLevel, explored, Answer, accepted, refused, late, answerOf, analysis, stateWords}
+use Rattle.model.specs.Exploration.{Exploration, going, full, miss, tryStates, counted, nextLevel, explored, Verdict, accepted, refused, late, verdictOf, analysis, stateWords}
 use Rattle.model.proofs.Coverage.{climb}
 use Rattle.words.proofs.Tabulate.{length-tabulate}
-use Rattle.words.proofs.Parts.{part, part-length, drop-after}
+use Rattle.words.proofs.Parts.{part-length, drop-after}
+use Rattle.words.specs.internal.Parts.{part}
 use Rattle.jobs.specs.Rows.{jobsOf}
 use Rattle.jobs.proofs.Jobs.{length-jobs}
 use Rattle.states.specs.Slots.{stateOf, slotOf, statesOf}
@@ -34,10 +35,10 @@ module _ (js : List Job) (m cap : ℕ) where
   next-stopped (miss i e f) h = refl
 
   -- the answer is that of the level at which it has stopped
-  pub stops : (l : ℕ) (x : Exploration) → Stopped x → l ≤ length js → x ≡ explored js m cap l → answerOf x ≡ analysis js m cap
+  pub stops : (l : ℕ) (x : Exploration) → Stopped x → l ≤ length js → x ≡ explored js m cap l → verdictOf x ≡ analysis js m cap
   unfolding analysis explored
   stops l x h b e =
-      ap answerOf (climb (λ j. x ≡ explored js m cap j) (λ j p. sym (next-stopped x h) ∙ ap (nextLevel js cap) p) l (length js) b e)
+      ap verdictOf (climb (λ j. x ≡ explored js m cap j) (λ j p. sym (next-stopped x h) ∙ ap (nextLevel js cap) p) l (length js) b e)
 
   next-of : (l : ℕ) (x : Exploration) → x ≡ explored js m cap l → nextLevel js cap x ≡ explored js m cap (l + 1)
   unfolding explored
@@ -86,7 +87,7 @@ module _ {rows : List ℕ} {k m cap : ℕ} {table₀ table seen : List ℕ} {fro
   size = cap * stateWords m k
 
   -- the analysis gives this answer, and words past both halves are as they were
-  abbrev Answered : Answer → List ℕ → List ℕ → Type 0
+  abbrev Answered : Verdict → List ℕ → List ℕ → Type 0
   Answered a t s = (a ≡ analysis js m cap) × (Observed k s × (drop (2 * size) t ≡ drop (2 * size) table₀))
 
   sides : Halves (length table) size from to × (to + size ≤ 2 * size)
@@ -99,7 +100,7 @@ module _ {rows : List ℕ} {k m cap : ℕ} {table₀ table seen : List ℕ} {fro
   unfolding analysis
   climbing-ends h =
       let e : level ≡ length js = omega (arith, before .upto, length-jobs rows k) in
-      (ap answerOf (before .same ∙ ap (explored js m cap) e), (before .observed, before .past))
+      (ap verdictOf (before .same ∙ ap (explored js m cap) e), (before .observed, before .past))
 
   module _ {r : Step} {table′ seen′ heads : List ℕ} (more : level < k) (kept : length table′ ≡ length table)
       (leaves : Leaves js m k cap (λ c. tryStates js cap (statesOf m k (part from size table) n) (going [] (observedOf k seen) c)) r (part to size table′) seen′ heads)
@@ -144,7 +145,7 @@ module _ {rows : List ℕ} {k m cap : ℕ} {table₀ table seen : List ℕ} {fro
                 ∙ ap (λ (z : Step). counted (progressOf m k (observedOf k seen′) count z (part to size table′))) (sym e) ∙ next;
           }
 
-    stopped : (end : Step) → r ≡ end → Stopped (progressOf m k (observedOf k seen′) count end (part to size table′)) → answerOf (progressOf m k (observedOf k seen′) count end (part to size table′)) ≡ analysis js m cap
+    stopped : (end : Step) → r ≡ end → Stopped (progressOf m k (observedOf k seen′) count end (part to size table′)) → verdictOf (progressOf m k (observedOf k seen′) count end (part to size table′)) ≡ analysis js m cap
     stopped end e h =
         stops js m cap (level + 1) (progressOf m k (observedOf k seen′) count end (part to size table′)) h (omega (arith, length-jobs rows k))
         (sym (counted-stopped (progressOf m k (observedOf k seen′) count end (part to size table′)) h)

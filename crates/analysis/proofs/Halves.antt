@@ -7,7 +7,8 @@ use native.Mathlib.Omega.{arith}
 use lib.ListN.{length, take, drop, getD}
 use lib.Seq.{ext-getD, take-at, length-take-le, drop-drop}
 use borrow.Rule.Slice.PartMut.{putMid}
-use Rattle.words.proofs.Parts.{part, part-length, part-get, part-before, part-after, drop-after}
+use Rattle.words.proofs.Parts.{part-length, part-get, part-before, part-after, drop-after}
+use Rattle.words.specs.internal.Parts.{part}
 use Rattle.analysis.specs.Outcomes.{Halves}
 
 -- a part of a part

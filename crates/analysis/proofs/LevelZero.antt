@@ -13,12 +13,14 @@ use Rattle.model.specs.Folds.{count}
 use Rattle.model.specs.Limits.{mostJobs, latestTime}
 use Rattle.model.specs.Jobs.{Job}
 use Rattle.model.specs.States.{Range, empty, isRange, State, initial}
-use Rattle.model.specs.Exploration.{going, full, limited, explored, Answer, refused, analysis, stateWords, capacity}
+use Rattle.model.specs.Exploration.{going, full, limited, explored, Verdict, refused, analysis, stateWords, capacity}
 use Rattle.model.proofs.Folds.{getD-same}
-use Rattle.model.proofs.Bounds.{TimedUpTo, Bounded, initial-bounded}
+use Rattle.model.proofs.Bounds.{initial-bounded}
+use Rattle.model.specs.internal.Bounds.{TimedUpTo, Bounded}
 use Rattle.words.specs.Tabulate.{tabulate}
 use Rattle.words.proofs.Tabulate.{tabulate-is}
-use Rattle.words.proofs.Parts.{part, part-length, part-get, part-same, length-put, drop-after}
+use Rattle.words.proofs.Parts.{part-length, part-get, part-same, length-put, drop-after}
+use Rattle.words.specs.internal.Parts.{part}
 use Rattle.jobs.specs.Rows.{jobsOf}
 use Rattle.jobs.proofs.Jobs.{length-jobs}
 use Rattle.states.specs.Slots.{possiblyAt, certainlyAt, setOf, rangeAt, stateOf, slotOf, statesOf, Sound}
@@ -106,7 +108,7 @@ module _ (rows : List ℕ) (k m : ℕ) (table : List ℕ) {w : ℕ} (wide : w �
   cap = length table / (2 * w)
 
   -- the analysis gives this answer, and words past both halves are as they were
-  abbrev Analysed : Answer → List ℕ → List ℕ → Type 0
+  abbrev Analysed : Verdict → List ℕ → List ℕ → Type 0
   Analysed a t seen =
       (a ≡ analysis js m (capacity (length table) m k))
       × (Observed k seen × (drop (2 * (capacity (length table) m k * width)) t ≡ drop (2 * (capacity (length table) m k * width)) table))
@@ -185,7 +187,7 @@ module _ (rows : List ℕ) (k m : ℕ) (table : List ℕ) {w : ℕ} (wide : w �
           (ap (λ (σ : State). going (σ ∷ []) (observedOf k seen) 1) (ap (stateOf m k) slot ∙ zeros-state m k)
           ∙ ap (λ (l : List Range). going (initial m k ∷ []) l 1) (ap (observedOf k) none ∙ zeros-observed k observedWords))
 
-      pub analysed : {a : Answer} {seen : List ℕ} (t : List ℕ) → a ≡ analysis js m cap → Observed k seen → drop (2 * (cap * width)) t ≡ drop (2 * (cap * width)) cleared → Analysed a t seen
+      pub analysed : {a : Verdict} {seen : List ℕ} (t : List ℕ) → a ≡ analysis js m cap → Observed k seen → drop (2 * (cap * width)) t ≡ drop (2 * (cap * width)) cleared → Analysed a t seen
       analysed {a} {seen} t e o d =
           let p : drop (2 * (cap * width)) t ≡ drop (2 * (cap * width)) table =
           d ∙ ap (drop (2 * (cap * width))) sized ∙ drop-after 0 width table first inside first-long (2 * (cap * width)) (omega (arith, one-fits)) in

@@ -2,7 +2,7 @@
 use Prim.Native.Nat.{ℕ, _+_, _≤_}
 use mathlib.Core.Logic.{_⊎_}
 use mathlib.Core.List.{List}
-use Rattle.model.specs.Exploration.{Answer, accepted, refused, late}
+use Rattle.model.specs.Exploration.{Verdict, accepted, refused, late}
 use Rattle.steps.specs.Observed.{observedOf}
 use Rattle.analysis.specs.declared.levels.Outcome.{Outcome}
 use Rattle.analysis.specs.declared.levels.Outcome.the-variants.{Accepted, Full, Late}
@@ -13,7 +13,7 @@ pub record Halves (words size from to : ℕ) : Type 0 where
   pub target : to + size ≤ words
   pub apart : (from + size ≤ to) ⊎ (to + size ≤ from)
 
-abbrev pub answerIn : ℕ → Outcome → List ℕ → Answer
-answerIn k (Accepted c) seen = accepted (observedOf k seen) c
-answerIn k (Full l) seen = refused 13 l
-answerIn k (Late i e f) seen = late i e f
+abbrev pub verdictIn : ℕ → Outcome → List ℕ → Verdict
+verdictIn k (Accepted c) seen = accepted (observedOf k seen) c
+verdictIn k (Full l) seen = refused 13 l
+verdictIn k (Late i e f) seen = late i e f

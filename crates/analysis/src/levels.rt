@@ -5,14 +5,14 @@ ghost use Prim.Native.Nat.{_+_, _*_, _≤_};
 ghost use lib.ListN.{length, drop};
 ghost use borrow.Rule.Slice.PartMut.{putMid};
 ghost use Rattle.model.specs.Exploration.{stateWords, capacity, going, tryStates, explored, analysis};
-ghost use Rattle.words.proofs.Parts.{part};
+ghost use Rattle.words.specs.internal.Parts.{part};
 ghost use Rattle.jobs.specs.Rows.{Setting, jobsOf};
 ghost use Rattle.states.specs.Slots.{statesOf};
 ghost use Rattle.edges.specs.Edges.{PredecessorSets};
 ghost use Rattle.store.specs.Half.{buckets};
 ghost use Rattle.steps.specs.Observed.{observedWords, observedOf, Observed};
 ghost use Rattle.steps.specs.Progress.{Half, Leaves};
-ghost use Rattle.analysis.specs.Outcomes.{Halves, answerIn};
+ghost use Rattle.analysis.specs.Outcomes.{Halves, verdictIn};
 use edges::write_predecessor_sets;
 use jobs::MOST_JOBS;
 use states::state_words;
@@ -107,7 +107,7 @@ pub fn climb_levels(
         × Half (jobsOf (now rows) k) m k cap (part 0 (cap * stateWords m k) (now table)) 1 × Observed k (now seen) ⌝ }
     requires { ⌜ going (statesOf m k (part 0 (cap * stateWords m k) (now table)) 1) (observedOf k (now seen)) 1
         ≡ explored (jobsOf (now rows) k) m cap 0 ⌝ }
-    ensures { λ r. ⌜ answerIn k r (now (seen .exit)) ≡ analysis (jobsOf (now (rows .entry)) k) m cap ⌝ }
+    ensures { λ r. ⌜ verdictIn k r (now (seen .exit)) ≡ analysis (jobsOf (now (rows .entry)) k) m cap ⌝ }
     ensures { λ _. ⌜ Observed k (now (seen .exit)) ⌝ }
     ensures { λ _. ⌜ drop (2 * (cap * stateWords m k)) (now (table .exit)) ≡ drop (2 * (cap * stateWords m k)) (now (table .entry)) ⌝ }
 {
@@ -144,7 +144,7 @@ pub fn climb_levels(
 // The analysis of k jobs on m cores: each half of the table has room for as many states as it takes whole.
 pub fn analyse(table: &mut [u32], seen: &mut [u32], rows: &[u32], k: usize, m: usize) -> Outcome
     requires { ⌜ Setting (now rows) k m × (length (now seen) ≡ observedWords) ⌝ }
-    ensures { λ r. ⌜ answerIn k r (now (seen .exit)) ≡ analysis (jobsOf (now (rows .entry)) k) m (capacity (length (now (table .entry))) m k) ⌝ }
+    ensures { λ r. ⌜ verdictIn k r (now (seen .exit)) ≡ analysis (jobsOf (now (rows .entry)) k) m (capacity (length (now (table .entry))) m k) ⌝ }
     ensures { λ _. ⌜ Observed k (now (seen .exit)) ⌝ }
     ensures { λ _. ⌜ drop (2 * (capacity (length (now (table .entry))) m k * stateWords m k)) (now (table .exit))
         ≡ drop (2 * (capacity (length (now (table .entry))) m k * stateWords m k)) (now (table .entry)) ⌝ }

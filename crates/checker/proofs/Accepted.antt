@@ -10,10 +10,11 @@ use borrow.Author.Tests.{eqb-false}
 use Rattle.model.specs.Limits.{mostJobs, latestTime}
 use Rattle.model.specs.Jobs.{Job, job}
 use Rattle.model.specs.States.{Range, empty, range, isRange, State}
-use Rattle.model.specs.Exploration.{Exploration, going, full, miss, accepted, answerOf, explored, analysis}
+use Rattle.model.specs.Exploration.{Exploration, going, full, miss, accepted, verdictOf, explored, analysis}
 use Rattle.model.specs.Guarantee.{WellFormed}
 use Rattle.model.proofs.Induction.{WhileGoing}
-use Rattle.model.proofs.Bounds.{TimedUpTo, Between, level-bounded}
+use Rattle.model.proofs.Bounds.{level-bounded}
+use Rattle.model.specs.internal.Bounds.{TimedUpTo, Between}
 use Rattle.model.proofs.Soundness.{all-reported}
 use Rattle.jobs.specs.Rows.{jobsOf, Setting}
 use Rattle.jobs.proofs.Jobs.{length-jobs}
@@ -22,7 +23,7 @@ use Rattle.steps.specs.Observed.{observedOf, Observed}
 use Rattle.steps.proofs.Ranges.{observed-at}
 use Rattle.checker.specs.Finished.{Finished}
 
-while-accepted : (P : List State → List Range → Type 0) (x : Exploration) (bounds : List Range) (c : ℕ) → answerOf x ≡ accepted bounds c → WhileGoing P x
+while-accepted : (P : List State → List Range → Type 0) (x : Exploration) (bounds : List Range) (c : ℕ) → verdictOf x ≡ accepted bounds c → WhileGoing P x
     → (l : List State) × P l bounds
 while-accepted P (going l seen d) bounds c e h = (l, subst (λ (b : List Range). P l b) (cc) h)
 while-accepted P (full n) bounds c e h = absurd (let z : _≡_ {A = ℕ} 0 1 = cc in omega arith)

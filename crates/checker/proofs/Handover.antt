@@ -10,18 +10,17 @@ use lib.Seq.{drop-append-add, drop-drop, getD-drop, getD-append-add, take-at}
 use Rattle.model.specs.Limits.{mostJobs, latestTime}
 use Rattle.model.specs.Folds.{member}
 use Rattle.model.specs.Jobs.{Job, noJob, job, nearest, asList, predecessors}
-use Rattle.model.proofs.Bounds.{TimedUpTo}
+use Rattle.model.specs.internal.Bounds.{TimedUpTo}
 use Rattle.model.proofs.Folds.{member-here, member-there}
 use Rattle.words.proofs.Tabulate.{tabulate-is}
+use Rattle.words.proofs.Padded.{padded-length}
 use Rattle.jobs.specs.Rows.{rowWords, countAt, predecessorsAt, keyAt, word, jobAt, Setting}
 use Rattle.jobs.specs.Rows.{jobsOf as jobsIn}
 use Rattle.format.specs.Phrase.{Note, Phrase, noNote, note, jobOf, jobsOf}
 use Rattle.format.specs.Reading.{ok}
-use Rattle.format.specs.Rows.{padded, mostPredecessors, jobWords, jobRow, jobRowsFrom, jobTable}
+use Rattle.words.specs.Padded.{padded}
+use Rattle.format.specs.Rows.{mostPredecessors, jobWords, jobRow, jobRowsFrom, jobTable}
 use Rattle.format.specs.Analysable.{InRanges, Analysable}
-
-padded-length : (n : ℕ) (l : List ℕ) → length l ≤ n → length (padded n l) ≡ n
-padded-length n l h = omega (arith, length-append l (replicate (n - length l) 0), length-replicate {A = ℕ} (n - length l) 0)
 
 getD-member : (l : List ℕ) (j : ℕ) → j < length l → member (getD l j 0) l ≡ true
 getD-member [] j h = absurd (not-suc-le-zero h)

@@ -14,7 +14,7 @@ use Rattle.model.specs.Limits.{mostJobs}
 use Rattle.model.proofs.Folds.{getD-same}
 use Rattle.words.specs.Tabulate.{tabulate}
 use Rattle.words.proofs.Tabulate.{length-tabulate, getD-tabulate, tabulate-ext}
-use Rattle.format.specs.Rows.{padded}
+use Rattle.words.specs.Padded.{padded}
 use Rattle.checker.specs.Checking.{perJob}
 
 module _ (k : ℕ) (f : ℕ → ℕ) (few : k ≤ mostJobs) where

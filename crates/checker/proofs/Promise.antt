@@ -9,9 +9,9 @@ use Rattle.model.specs.Jobs.{Job}
 use Rattle.model.specs.States.{Range}
 use Rattle.model.specs.Dispatch.{Scenario}
 use Rattle.model.specs.Exploration.{accepted, refused, late, analysis}
-use Rattle.model.specs.Exploration.{Answer as Verdict}
+use Rattle.model.specs.Exploration.{Verdict}
 use Rattle.model.specs.Guarantee.{WellFormed, Admissible, Kept}
-use Rattle.model.proofs.Bounds.{TimedUpTo}
+use Rattle.model.specs.internal.Bounds.{TimedUpTo}
 use Rattle.model.proofs.Soundness.{soundness}
 use Rattle.format.specs.Phrase.{Phrase, jobsOf}
 use Rattle.format.specs.Reading.{Outcome, ok, reading}

@@ -7,8 +7,8 @@ use lib.ListN.{length}
 use Rattle.model.specs.Limits.{mostJobs}
 use Rattle.model.specs.Jobs.{Job}
 use Rattle.model.specs.Exploration.{accepted, refused, late, analysis}
-use Rattle.model.specs.Exploration.{Answer as Verdict}
-use Rattle.model.proofs.Refusals.{refused-within, late-within}
+use Rattle.model.specs.Exploration.{Verdict}
+use Rattle.model.proofs.Places.{refused-within, late-within}
 use Rattle.format.specs.Phrase.{Phrase, jobsOf}
 use Rattle.format.specs.Reading.{mostBytes, Outcome, ok, reading}
 use Rattle.format.specs.Reading.{refused as unread}

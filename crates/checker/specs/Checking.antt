@@ -6,12 +6,12 @@ use Rattle.model.specs.Limits.{mostJobs}
 use Rattle.model.specs.Jobs.{Job, job}
 use Rattle.model.specs.States.{Range, empty, range, earliest, latest}
 use Rattle.model.specs.Exploration.{accepted, refused, late, analysis, stateWords, capacity}
-use Rattle.model.specs.Exploration.{Answer as Verdict}
+use Rattle.model.specs.Exploration.{Verdict}
 use Rattle.words.specs.Tabulate.{tabulate}
 use Rattle.format.specs.Phrase.{Phrase, jobsOf}
 use Rattle.format.specs.Reading.{Outcome, ok}
 use Rattle.format.specs.Reading.{refused as unread}
-use Rattle.format.specs.Rows.{padded}
+use Rattle.words.specs.Padded.{padded}
 use Rattle.checker.specs.declared.Answer.{Answer}
 use Rattle.checker.specs.declared.Answer.the-variants.{Accepted, Refused, Late}
 use Rattle.checker.specs.declared.Checked.{Checked}

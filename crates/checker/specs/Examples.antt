@@ -4,7 +4,7 @@ use mathlib.Core.Path.{_≡_, refl}
 use mathlib.Core.List.{List, [], _∷_, _++_, map}
 use lib.ListN.{set, take, replicate}
 use Rattle.model.specs.Exploration.{accepted, refused, late, analysis}
-use Rattle.model.specs.Exploration.{Answer as Verdict}
+use Rattle.model.specs.Exploration.{Verdict}
 use Rattle.model.specs.States.{range}
 use Rattle.format.specs.Phrase.{Phrase}
 use Rattle.format.specs.Reading.{Outcome, reading}

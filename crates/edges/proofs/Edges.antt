@@ -13,7 +13,8 @@ use Rattle.model.specs.Folds.{all, Limit, infinite, finite}
 use Rattle.model.specs.Jobs.{Job, before}
 use Rattle.model.specs.States.{State, first}
 use Rattle.model.specs.Edges.{orZero, isBelow, lastBelow, candidate, certainlyReady, certainlyReadyBeside, earliestStart, workConservingBound, higherPriorityBound, eligible, latestStart}
-use Rattle.model.proofs.Bounds.{TimedUpTo, Bounded, bound-up-to}
+use Rattle.model.proofs.Bounds.{bound-up-to}
+use Rattle.model.specs.internal.Bounds.{TimedUpTo, Bounded}
 use Rattle.states.specs.Slots.{possiblyAt, certainlyAt, stateOf}
 use Rattle.edges.specs.Edges.{candidates, noLimit, limitWord, firstCertainlyReady, edgeOf}
 use Rattle.edges.specs.declared.Edge.the-variants.{NotEligible, Starts}

@@ -10,7 +10,7 @@ use Rattle.model.specs.Jobs.{Job, predecessors}
 use Rattle.model.specs.States.{State}
 use Rattle.model.specs.Edges.{candidate, certainlyReady, earliestStart, eligible, latestStart}
 use Rattle.model.specs.Exploration.{stateWords}
-use Rattle.model.proofs.Bounds.{Bounded}
+use Rattle.model.specs.internal.Bounds.{Bounded}
 use Rattle.jobs.specs.Rows.{jobsOf, Setting}
 use Rattle.states.specs.Slots.{inSet, stateOf}
 use Rattle.edges.specs.declared.Edge.{Edge}

@@ -13,7 +13,7 @@ use Rattle.format.specs.Bytes.{byteAt, within}
 use Rattle.format.specs.Phrase.{Bell, sounding}
 use Rattle.format.specs.Reading.{ok, refused, bellBytes, bellCountAt, bellsAt, mostBells, bellIn, bellInRange, find, bellRecord, bellsFrom, bellsOf}
 use Rattle.format.specs.Rows.{bellWords, bellRow}
-use Rattle.words.specs.Placed.{placed}
+use Rattle.words.specs.internal.Placed.{placed}
 use Rattle.format.specs.Tables.{bellsIn, BellTable}
 use Rattle.format.proofs.BellRows.{bells-more}
 use Rattle.format.proofs.Passed.{required, bound}

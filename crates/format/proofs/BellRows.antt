@@ -8,7 +8,7 @@ use lib.ListN.{length, getD, take, drop, length-append, take-append-drop, List·
 use lib.Seq.{getD-take, getD-append-add, drop-drop}
 use Rattle.format.specs.Phrase.{Bell, noBell}
 use Rattle.format.specs.Rows.{bellWords, bellRow, bellRows}
-use Rattle.words.specs.Placed.{placed}
+use Rattle.words.specs.internal.Placed.{placed}
 use Rattle.format.specs.Tables.{bellAt, bellsIn, BellTable, HoldsBells}
 use Rattle.words.proofs.Placing.{take-placed, length-placed}
 

@@ -13,7 +13,8 @@ use Rattle.format.specs.Bytes.{byteAt, be32, within}
 use Rattle.format.specs.Phrase.{Bell, Note, Phrase}
 use Rattle.model.specs.Limits.{mostCores, mostJobs}
 use Rattle.format.specs.Reading.{Outcome, ok, refused, _>>_, require, countAt, headerBytes, coresAt, bellCountAt, bellsAt, mostBells, noteCountAt, bellsOf, notesOf, reading}
-use Rattle.format.specs.Rows.{padded, bellWords, bellRows, jobWords, jobRowsFrom, bellTable, jobTable}
+use Rattle.words.specs.Padded.{padded}
+use Rattle.format.specs.Rows.{bellWords, bellRows, jobWords, jobRowsFrom, bellTable, jobTable}
 use Rattle.format.specs.Results.{readingOf, countsOf, countsIn, headerOf, bodyOf}
 use Rattle.format.specs.Tables.{bellsIn, BellTable, HoldsBells, jobRows, HoldsJobs, bellsRead, notesRead, Filled}
 use Rattle.format.specs.declared.Reading.the-variants.{Whole, Refused}

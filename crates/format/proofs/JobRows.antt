@@ -13,8 +13,9 @@ use borrow.Author.Tests.{eq-eqb, ne-eqb}
 use Rattle.model.specs.Jobs.{Job, noJob, job, nearest, asList, predecessors}
 use Rattle.format.specs.Phrase.{Bell, Note, bellOf, jobOf}
 use Rattle.format.specs.Reading.{mostListed}
-use Rattle.format.specs.Rows.{padded, jobWords, mostPredecessors, jobRow, jobRowsFrom}
-use Rattle.words.specs.Placed.{placed}
+use Rattle.words.specs.Padded.{padded}
+use Rattle.format.specs.Rows.{jobWords, mostPredecessors, jobRow, jobRowsFrom}
+use Rattle.words.specs.internal.Placed.{placed}
 use Rattle.format.specs.Tables.{countWord, bellWord, nearestIn, demandWords, predecessorWords, originWords, noteRow, jobRows}
 use Rattle.words.proofs.Placing.{placed-append, placed-whole}
 use Rattle.format.proofs.Listed.{padded-length}

@@ -10,7 +10,7 @@ use lib.Seq.{length-take-le, getD-take, getD-drop, drop-cons, take-suc, set-appe
 use borrow.Author.Tests.{le-leb, lt-leb, lt-ltb, le-ltb}
 use Rattle.format.specs.Bytes.{byteAt}
 use Rattle.format.specs.Reading.{noteBytes, mostListed, rises, listedIn}
-use Rattle.format.specs.Rows.{padded}
+use Rattle.words.specs.Padded.{padded}
 use Rattle.format.specs.Tables.{WholeNote}
 
 pub listed-length : (p : List ℕ) → WholeNote p → length (listedIn p) ≡ byteAt p 0 - noteBytes

@@ -17,7 +17,7 @@ use Rattle.format.specs.Phrase.{Bell, Note, bellOf, jobOf}
 use Rattle.model.specs.Limits.{mostJobs}
 use Rattle.format.specs.Reading.{Outcome, ok, refused, noteBytes, mostListed, noteCountAt, find, areTimes, rises, listedIn, noteIn, noteFields, noteRecord, notesFrom, notesOf}
 use Rattle.format.specs.Rows.{jobWords, jobRowsFrom}
-use Rattle.words.specs.Placed.{placed}
+use Rattle.words.specs.internal.Placed.{placed}
 use Rattle.format.specs.Tables.{WholeNote, bellWord, nearestIn, noteRow, jobRows, HoldsJobs}
 use Rattle.format.proofs.Outcomes.{same}
 use Rattle.format.proofs.Passed.{within-true, required, bound, found}

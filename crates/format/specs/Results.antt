@@ -9,7 +9,8 @@ use Rattle.format.specs.Bytes.{byteAt, be32, within}
 use Rattle.format.specs.Phrase.{Phrase}
 use Rattle.model.specs.Limits.{mostCores}
 use Rattle.format.specs.Reading.{Outcome, ok, refused, _>>=_, _>>_, require, countAt, headerBytes, coresAt, bellCountAt, noteCountAt, bellsOf, notesOf}
-use Rattle.format.specs.Rows.{mostPredecessors, padded}
+use Rattle.words.specs.Padded.{padded}
+use Rattle.format.specs.Rows.{mostPredecessors}
 use Rattle.format.specs.declared.Counts.{Counts}
 use Rattle.format.specs.declared.Reading.{Reading}
 use Rattle.format.specs.declared.Reading.the-variants.{Whole, Refused}

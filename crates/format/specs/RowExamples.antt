@@ -7,7 +7,7 @@ use mathlib.Core.Option.{none, some}
 use native.Mathlib.Omega.{arith}
 use lib.ListN.{replicate}
 use Rattle.model.specs.Jobs.{predecessors}
-use Rattle.model.specs.Marked.{dueWaiting, due}
+use Rattle.model.specs.examples.Marked.{dueWaiting, due}
 use Rattle.format.specs.Phrase.{Bell, sounding, Note, Phrase, jobsOf}
 use Rattle.format.specs.Reading.{Outcome, ok, refused, reading, bellInRange, findFrom, areTimes, rises}
 use Rattle.format.specs.Rows.{bellRows, jobRowsFrom, bellTable, jobTable}

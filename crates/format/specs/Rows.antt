@@ -6,11 +6,8 @@ use lib.ListN.{length, replicate}
 use Rattle.model.specs.Jobs.{Job, job, predecessors}
 use Rattle.format.specs.Phrase.{Bell, sounding, Note, Phrase, jobsOf}
 use Rattle.model.specs.Limits.{mostJobs}
+use Rattle.words.specs.Padded.{padded}
 use Rattle.format.specs.Reading.{Outcome, ok, refused, mostBells, mostListed}
-
--- the list, and zeros up to n words
-abbrev pub padded : ℕ → List ℕ → List ℕ
-padded n l = l ++ replicate (n - length l) 0
 
 abbrev pub bellWords : ℕ
 bellWords = 8

@@ -6,13 +6,14 @@ use mathlib.Core.List.{List, [], _∷_, _++_, map}
 use mathlib.Core.Option.{Option, none, some}
 use lib.Dec.{eqb}
 use lib.ListN.{length, getD, take, drop}
-use Rattle.words.specs.Placed.{placed}
+use Rattle.words.specs.internal.Placed.{placed}
 use Rattle.model.specs.Jobs.{asList}
 use Rattle.format.specs.Bytes.{byteAt}
 use Rattle.format.specs.Phrase.{Bell, Note, Phrase, bellOf, jobOf}
 use Rattle.model.specs.Limits.{mostJobs}
 use Rattle.format.specs.Reading.{Outcome, ok, refused, mostBells, noteBytes, mostListed}
-use Rattle.format.specs.Rows.{padded, bellWords, bellRow, bellRows, jobWords, mostPredecessors, jobRowsFrom}
+use Rattle.words.specs.Padded.{padded}
+use Rattle.format.specs.Rows.{bellWords, bellRow, bellRows, jobWords, mostPredecessors, jobRowsFrom}
 
 -- what was read, nothing on a refusal
 abbrev pub listOf : {A : Type 0} → Outcome (List A) → List A

@@ -12,7 +12,7 @@ ghost use Rattle.format.specs.Phrase.{sounding};
 ghost use Rattle.format.specs.Reading.{bellBytes, bellsAt, mostBells, bellIn, isTransposition, isExecutionRange, bellInRange, find, bellRecord, bellsFrom, bellsOf};
 ghost use Rattle.format.specs.Rows.{bellWords, bellRow};
 ghost use Rattle.format.specs.Results.{foundOf, stepOf};
-ghost use Rattle.words.specs.Placed.{placed};
+ghost use Rattle.words.specs.internal.Placed.{placed};
 ghost use Rattle.format.specs.Tables.{listOf, bellsIn, BellTable, bellPut, HoldsBells};
 
 // Where the file has the bells.

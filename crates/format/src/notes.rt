@@ -18,9 +18,10 @@ ghost use Rattle.model.specs.Jobs.{asList};
 ghost use Rattle.format.specs.Bytes.{byteAt, be32};
 ghost use Rattle.model.specs.Limits.{mostJobs};
 ghost use Rattle.format.specs.Reading.{bellCountAt, mostBells, areTimes, rises, listedIn, noteIn, noteFields, noteRecord, notesFrom, notesOf};
-ghost use Rattle.format.specs.Rows.{bellWords, jobWords, mostPredecessors, padded};
+ghost use Rattle.words.specs.Padded.{padded};
+ghost use Rattle.format.specs.Rows.{bellWords, jobWords, mostPredecessors};
 ghost use Rattle.format.specs.Results.{foundOf, stepOf, optionOf, predecessorsOf};
-ghost use Rattle.words.specs.Placed.{placed};
+ghost use Rattle.words.specs.internal.Placed.{placed};
 ghost use Rattle.format.specs.Tables.{listOf, bellAt, bellsIn, BellTable, WholeNote, countWord, bellWord, nearestIn, demandWords, predecessorWords, originWords, noteRow, notePut, HoldsJobs};
 
 // A note record: its length byte counts what follows it, NOTE_BYTES and a byte for each listed job.

@@ -5,7 +5,7 @@ use mathlib.Core.List.{List}
 use lib.ListN.{getD, length, take, drop}
 use Rattle.model.specs.Limits.{mostJobs, mostCores, latestTime, longestExecution}
 use Rattle.model.specs.Jobs.{Job, predecessors}
-use Rattle.model.proofs.Bounds.{TimedUpTo}
+use Rattle.model.specs.internal.Bounds.{TimedUpTo}
 use Rattle.words.specs.Tabulate.{tabulate}
 
 abbrev pub rowWords : ℕ

@@ -4,7 +4,7 @@ pub mod Folds
 pub mod Availability
 pub mod Enclosure
 pub mod Induction
-pub mod Refusals
+pub mod Places
 pub mod Coverage
 pub mod Priority
 pub mod History

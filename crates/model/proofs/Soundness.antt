@@ -16,7 +16,7 @@ use Rattle.model.specs.Jobs.{Job, job, predecessors}
 use Rattle.model.specs.Dispatch.{Scenario, waiting, running, done, status, isWaiting, run}
 use Rattle.model.specs.States.{Range, empty, range, isRange, latest, State, finishOf, started}
 use Rattle.model.specs.Edges.{candidate, workConservingBound}
-use Rattle.model.specs.Exploration.{Exploration, going, full, miss, explored, accepted, answerOf, analysis}
+use Rattle.model.specs.Exploration.{Exploration, going, full, miss, explored, accepted, verdictOf, analysis}
 use Rattle.model.specs.Guarantee.{WellFormed, Admissible, statusAt, Contains, Overlap, Kept}
 use Rattle.model.proofs.Booleans.{cases, clash}
 use Rattle.model.proofs.Folds.{count-length, at-largest, below-suc}
@@ -231,7 +231,7 @@ module _ (js : List Job) (m : ℕ) (s : Scenario) (bounds : List Range) (levels 
         }
 
 -- an accepting analysis has built the last level
-last-level : (x : Exploration) (bounds : List Range) (c : ℕ) → answerOf x ≡ accepted bounds c → (l : List State) × (x ≡ going l bounds c)
+last-level : (x : Exploration) (bounds : List Range) (c : ℕ) → verdictOf x ≡ accepted bounds c → (l : List State) × (x ≡ going l bounds c)
 last-level (going l seen d) bounds c e = (l, cc)
 last-level (full n) bounds c e = absurd (let z : _≡_ {A = ℕ} 0 1 = cc in omega arith)
 last-level (miss i x y) bounds c e = absurd (let z : _≡_ {A = ℕ} 0 1 = cc in omega arith)

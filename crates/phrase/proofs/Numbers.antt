@@ -4,8 +4,8 @@ use mathlib.Core.Path.{_≡_, refl, ap}
 use mathlib.Core.List.{List}
 use native.Mathlib.Omega.{arith}
 use Rattle.model.specs.Exploration.{accepted, refused, late}
-use Rattle.model.specs.Exploration.{Answer as Verdict}
-use Rattle.model.proofs.Refusals.{refused-within}
+use Rattle.model.specs.Exploration.{Verdict}
+use Rattle.model.proofs.Places.{refused-within}
 use Rattle.model.proofs.Soundness.{soundness}
 use Rattle.format.specs.Phrase.{Phrase, jobsOf}
 use Rattle.format.specs.Reading.{Outcome, ok, reading}

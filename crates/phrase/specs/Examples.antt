@@ -4,8 +4,8 @@ use mathlib.Core.Path.{_≡_, refl}
 use mathlib.Core.List.{List, [], _∷_, map}
 use Rattle.model.specs.States.{range}
 use Rattle.model.specs.Exploration.{accepted, refused, late, analysis}
-use Rattle.model.specs.Exploration.{Answer as Verdict}
-use Rattle.model.specs.Instances.{later, later-admissible, not-from-seven, not-until-five}
+use Rattle.model.specs.Exploration.{Verdict}
+use Rattle.model.specs.examples.Instances.{later, later-admissible, not-from-seven, not-until-five}
 use Rattle.format.specs.Phrase.{Phrase}
 use Rattle.format.specs.Reading.{ok, reading}
 use Rattle.format.specs.Reading.{refused as unread}

@@ -3,7 +3,7 @@ use Prim.Native.Nat.{ℕ, _+_, _*_}
 use Rattle.model.specs.Dispatch.{Scenario}
 use Rattle.model.specs.Guarantee.{Admissible, Kept}
 use Rattle.model.specs.Exploration.{accepted, refused, late}
-use Rattle.model.specs.Exploration.{Answer as Verdict}
+use Rattle.model.specs.Exploration.{Verdict}
 use Rattle.format.specs.Phrase.{Phrase, jobsOf}
 use Rattle.format.specs.Reading.{Outcome, ok}
 use Rattle.format.specs.Reading.{refused as unread}

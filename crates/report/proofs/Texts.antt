@@ -8,7 +8,7 @@ use Rattle.model.specs.Limits.{mostJobs}
 use Rattle.model.specs.Jobs.{Job, job}
 use Rattle.model.specs.States.{Range, empty, earliest, latest}
 use Rattle.model.specs.Exploration.{accepted, refused, late}
-use Rattle.model.specs.Exploration.{Answer as Verdict}
+use Rattle.model.specs.Exploration.{Verdict}
 use Rattle.jobs.specs.Rows.{word, mostExecutionAt, jobAt}
 use Rattle.format.specs.Phrase.{Phrase, jobsOf}
 use Rattle.format.specs.Reading.{Outcome, ok, reading}

@@ -7,7 +7,7 @@ use lib.ListN.{getD, length, drop}
 use Rattle.model.specs.Jobs.{job}
 use Rattle.model.specs.States.{Range, empty, earliest, latest}
 use Rattle.model.specs.Exploration.{accepted, refused, late}
-use Rattle.model.specs.Exploration.{Answer as Verdict}
+use Rattle.model.specs.Exploration.{Verdict}
 use Rattle.format.specs.Phrase.{Phrase, note, jobsOf}
 use Rattle.format.specs.Reading.{Outcome, ok}
 use Rattle.format.specs.Reading.{refused as unread}

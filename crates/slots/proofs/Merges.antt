@@ -15,7 +15,8 @@ use Rattle.model.specs.Exploration.{hull, sameStarted, mergeable, merge, stateW
 use Rattle.model.proofs.Booleans.{and-left}
 use Rattle.model.proofs.StartedSet.{mask-same}
 use Rattle.words.proofs.Tabulate.{tabulate-ext}
-use Rattle.words.proofs.Parts.{part, part-length, part-get, part-same, part-before, part-after, length-put}
+use Rattle.words.proofs.Parts.{part-length, part-get, part-same, part-before, part-after, length-put}
+use Rattle.words.specs.internal.Parts.{part}
 use Rattle.states.specs.Slots.{setWords, possiblyAt, certainlyAt, earliestAt, latestAt, setOf, inSet, rangeAt, stateOf}
 use Rattle.states.proofs.Reading.{finish-length, set-mask}
 use Rattle.slots.specs.Writing.{Widened}

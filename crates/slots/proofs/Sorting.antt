@@ -10,7 +10,8 @@ use lib.ListN.{length, take, drop, getD, set, drop-of-length-le}
 use lib.Seq.{drop-cons, take-suc-set, drop-set-lt, set-split}
 use borrow.Author.Tests.{leb-true, leb-false}
 use Rattle.model.specs.Edges.{insert, sort, availability}
-use Rattle.model.proofs.Sorted.{Least, Sorted, none, more, tail-sorted, raised-sorted, sort-same}
+use Rattle.model.proofs.Sorted.{tail-sorted, raised-sorted, sort-same}
+use Rattle.model.specs.internal.Sorted.{Least, Sorted, none, more}
 
 unfoldable pub carried : ℕ → List ℕ → List ℕ
 carried x [] = x ∷ []

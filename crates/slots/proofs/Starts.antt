@@ -13,10 +13,11 @@ use Rattle.model.specs.Folds.{ind}
 use Rattle.model.specs.States.{Range, empty, range, isRange, State, started}
 use Rattle.model.specs.Edges.{availability}
 use Rattle.model.specs.Exploration.{stateWords}
-use Rattle.model.proofs.Sorted.{Sorted, Ordered}
+use Rattle.model.specs.internal.Sorted.{Sorted, Ordered}
 use Rattle.model.proofs.StartedSet.{maskOf, mask-bit, mask-set, mask-fits}
 use Rattle.words.proofs.Tabulate.{tabulate-is}
-use Rattle.words.proofs.Parts.{part, part-same, part-before, part-after, part-set-before, part-set-after, length-put}
+use Rattle.words.proofs.Parts.{part-same, part-before, part-after, part-set-before, part-set-after, length-put}
+use Rattle.words.specs.internal.Parts.{part}
 use Rattle.states.specs.Slots.{setWords, possiblyAt, certainlyAt, earliestAt, latestAt, setOf, inSet, rangeAt, stateOf}
 use Rattle.states.proofs.Reading.{finish-length, finish-at, started-at, set-mask}
 use Rattle.slots.specs.Writing.{withStart}

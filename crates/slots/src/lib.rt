@@ -10,7 +10,7 @@ ghost use Rattle.model.specs.Folds.{everyTwo};
 ghost use Rattle.model.specs.States.{range, started};
 ghost use Rattle.model.specs.Edges.{availability};
 ghost use Rattle.model.specs.Exploration.{mergeable, merge, stateWords};
-ghost use Rattle.model.proofs.Sorted.{Sorted, Ordered};
+ghost use Rattle.model.specs.internal.Sorted.{Sorted, Ordered};
 ghost use Rattle.states.specs.Slots.{setOf, stateOf};
 ghost use Rattle.slots.specs.Writing.{withStart, Widened};
 use states::SET_WORDS;

@@ -8,7 +8,7 @@ use Rattle.model.specs.Limits.{latestTime}
 use Rattle.model.specs.Jobs.{Job}
 use Rattle.model.specs.States.{Range, empty, range, State}
 use Rattle.model.specs.Exploration.{stateWords}
-use Rattle.model.proofs.Bounds.{Bounded}
+use Rattle.model.specs.internal.Bounds.{Bounded}
 use Rattle.words.specs.Tabulate.{tabulate}
 
 -- ---- where things stand, with m cores and k jobs

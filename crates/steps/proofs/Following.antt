@@ -15,7 +15,8 @@ use Rattle.model.specs.Edges.{candidate, isBelow, earliestStart, workConserving
 use Rattle.model.specs.Exploration.{Exploration, going, full, miss, limited, stored, observed, addEdge, tryJob, tryJobs}
 use Rattle.model.proofs.Booleans.{and-left}
 use Rattle.model.proofs.Starts.{candidate-out}
-use Rattle.model.proofs.Bounds.{TimedUpTo, Bounded, earliest-start-up-to, latest-start-up-to, successor-bounded}
+use Rattle.model.proofs.Bounds.{earliest-start-up-to, latest-start-up-to, successor-bounded}
+use Rattle.model.specs.internal.Bounds.{TimedUpTo, Bounded}
 use Rattle.jobs.specs.Rows.{jobsOf, Setting, word, leastExecutionAt, mostExecutionAt}
 use Rattle.jobs.proofs.Jobs.{length-jobs, field-of}
 use Rattle.slots.specs.Writing.{withStart}

@@ -3,7 +3,7 @@ use Prim.Native.Nat.{ℕ, _+_, _≤_}
 use mathlib.Core.Path.{_≡_}
 use mathlib.Core.List.{List}
 use lib.ListN.{length}
-use Rattle.words.specs.Placed.{placed}
+use Rattle.words.specs.internal.Placed.{placed}
 
 -- the buffer has room for the text from `at` on
 pub record Room (buffer : List ℕ) (at : ℕ) (text : List ℕ) : Type 0 where

@@ -1,4 +1,5 @@
 -- Laws of lists of words.
 pub mod Tabulate
+pub mod Padded
 pub mod Parts
 pub mod Placing

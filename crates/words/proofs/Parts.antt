@@ -7,10 +7,7 @@ use native.Mathlib.Omega.{arith}
 use lib.ListN.{length, take, drop, getD, set, length-drop}
 use lib.Seq.{length-take-le, take-at, drop-at, drop-drop, take-take, drop-set-lt, drop-set-add, take-set-le, getD-take, getD-drop}
 use borrow.Rule.Slice.PartMut.{putMid, take-put, drop-put, same-len-mid}
-
--- the m elements from b on
-abbrev pub part : ℕ → ℕ → List ℕ → List ℕ
-part b m xs = take m (drop b xs)
+use Rattle.words.specs.internal.Parts.{part}
 
 pub part-length : (b m : ℕ) (xs : List ℕ) → b + m ≤ length xs → length (part b m xs) ≡ m
 part-length b m xs h = length-take-le m (drop b xs) (rw length-drop (omega arith))

@@ -7,7 +7,7 @@ use native.Mathlib.Omega.{arith}
 use lib.ListN.{length, getD, take, drop, length-append, length-drop, drop-of-length-le}
 use lib.Seq.{length-take-le, take-at, drop-at, getD-take, sets, sets-eq, drop-drop, take-all}
 use borrow.Rule.Slice.PartMut.{putMid}
-use Rattle.words.specs.Placed.{placed}
+use Rattle.words.specs.internal.Placed.{placed}
 
 module _ (t : List ℕ) (at : ℕ) (row : List ℕ) (h : at ≤ length t) where
   head-length : length (take at t ++ row) ≡ at + length row

@@ -1,3 +1,4 @@
 -- Lists of words.
 pub mod Tabulate
-pub mod Placed
+pub mod Padded
+pub mod internal

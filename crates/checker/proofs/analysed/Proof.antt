@@ -5,7 +5,7 @@ use denote.Ref.{now}
 use borrow.Author.Needs.{needs}
 use Rattle.model.specs.Exploration.{analysis, capacity}
 use Rattle.jobs.specs.Rows.{jobsOf}
-use Rattle.analysis.specs.Outcomes.{answerIn}
+use Rattle.analysis.specs.Outcomes.{verdictIn}
 use Rattle.analysis.specs.declared.levels.Outcome.{Outcome}
 use Rattle.checker.specs.Checking.{resultOf}
 use Rattle.checker.proofs.Accepted.{all-finished}
@@ -17,8 +17,8 @@ start c = c .before .before .before .before .before
 
 -- an outcome says what the definition answers
 told : (c : tie.After-analyse) (o : Outcome) → c .analyse .result ≡ o
-    → let a = start c .args in answerIn (a .k) o (c .analyse .last .1 .0) ≡ analysis (jobsOf (now (a .rows)) (a .k)) (a .m) (capacity (length (now (a .table))) (a .m) (a .k))
-told c o e = ap (λ (z : Outcome). answerIn (start c .args .k) z (c .analyse .last .1 .0)) (sym e) ∙ c .analyse .ensures .0
+    → let a = start c .args in verdictIn (a .k) o (c .analyse .last .1 .0) ≡ analysis (jobsOf (now (a .rows)) (a .k)) (a .m) (capacity (length (now (a .table))) (a .m) (a .k))
+told c o e = ap (λ (z : Outcome). verdictIn (start c .args .k) z (c .analyse .last .1 .0)) (sym e) ∙ c .analyse .ensures .0
 
 slice-aggregate-analyse : tie.Need-slice-aggregate-analyse
 slice-aggregate-analyse c = search needs

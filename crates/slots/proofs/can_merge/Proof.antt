@@ -6,7 +6,7 @@ use lib.Dec.{leb}
 use denote.Ref.{now}
 use borrow.Author.Tests.{not-true, not-false}
 use Rattle.model.specs.Folds.{everyTwo}
-use Rattle.words.proofs.Parts.{part}
+use Rattle.words.specs.internal.Parts.{part}
 use Rattle.states.specs.Slots.{possiblyAt, certainlyAt, setOf}
 use Rattle.slots.proofs.Merges.{other-set, one-set}
 use borrow.Author.Needs.{needs}

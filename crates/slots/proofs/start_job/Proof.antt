@@ -7,8 +7,9 @@ use denote.Ref.{now}
 use borrow.Rule.Slice.PartMut.{putMid}
 use Rattle.model.specs.States.{range}
 use Rattle.model.specs.Exploration.{stateWords}
-use Rattle.model.proofs.Sorted.{Sorted}
-use Rattle.words.proofs.Parts.{part, part-length, length-put}
+use Rattle.model.specs.internal.Sorted.{Sorted}
+use Rattle.words.proofs.Parts.{part-length, length-put}
+use Rattle.words.specs.internal.Parts.{part}
 use Rattle.states.specs.Slots.{possiblyAt, certainlyAt, stateOf}
 use Rattle.slots.proofs.Starts.{parts-sorted, upper-kept, updated-set, started-state}
 use borrow.Author.Needs.{needs}

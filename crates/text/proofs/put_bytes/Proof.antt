@@ -8,7 +8,7 @@ use lib.ListN.{length, take, drop, length-set}
 use lib.Seq.{paste, paste-zero, paste-suc, take-length}
 use denote.Ref.{now}
 use borrow.Author.Needs.{needs}
-use Rattle.words.specs.Placed.{placed}
+use Rattle.words.specs.internal.Placed.{placed}
 use Rattle.text.proofs.put_bytes.Statement.{statement}
 use Rattle.text.proofs.put_bytes.Tie as tie
 

@@ -11,7 +11,7 @@ use Rattle.format.specs.Phrase.{Bell}
 use Rattle.format.specs.Reading.{ok, bellBytes, bellsAt, bellRecord, bellsFrom}
 use Rattle.format.specs.Rows.{bellWords, bellRow}
 use Rattle.format.specs.Results.{stepOf}
-use Rattle.words.specs.Placed.{placed}
+use Rattle.words.specs.internal.Placed.{placed}
 use Rattle.format.specs.Tables.{listOf, bellsIn, BellTable, bellPut, HoldsBells}
 use Rattle.words.proofs.Placing.{tail-is}
 use Rattle.format.proofs.Outcomes.{was-ok, was-refused, carried}

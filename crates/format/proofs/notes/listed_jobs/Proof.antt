@@ -7,7 +7,8 @@ use mathlib.Core.List.{[], _∷_, _++_}
 use lib.ListN.{length, take, set}
 use lib.Seq.{length-take-le, take-all}
 use Rattle.format.specs.Reading.{listedIn}
-use Rattle.format.specs.Rows.{padded, mostPredecessors}
+use Rattle.words.specs.Padded.{padded}
+use Rattle.format.specs.Rows.{mostPredecessors}
 use Rattle.format.proofs.Listed.{listed-length, listed-few, snoc, padded-set}
 use Rattle.format.proofs.notes.listed_jobs.Statement.{statement}
 use Rattle.format.proofs.notes.listed_jobs.Tie as tie

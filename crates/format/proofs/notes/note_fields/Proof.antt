@@ -10,7 +10,7 @@ use Rattle.format.specs.Bytes.{byteAt, be32}
 use Rattle.format.specs.Reading.{find, areTimes, noteIn}
 use Rattle.format.specs.Rows.{jobWords}
 use Rattle.format.specs.Results.{foundOf}
-use Rattle.words.specs.Placed.{placed}
+use Rattle.words.specs.internal.Placed.{placed}
 use Rattle.format.specs.Tables.{bellsIn, nearestIn, noteRow, notePut}
 use Rattle.format.proofs.Outcomes.{carried, was-some, was-none}
 use Rattle.format.proofs.BellRows.{bells-length, bell-at}

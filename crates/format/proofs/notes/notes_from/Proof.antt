@@ -10,7 +10,7 @@ use Rattle.format.specs.Phrase.{Note, bellOf}
 use Rattle.format.specs.Reading.{ok, noteRecord}
 use Rattle.format.specs.Rows.{jobWords}
 use Rattle.format.specs.Results.{stepOf}
-use Rattle.words.specs.Placed.{placed}
+use Rattle.words.specs.internal.Placed.{placed}
 use Rattle.format.specs.Tables.{listOf, bellsIn, nearestIn, noteRow, notePut, HoldsJobs}
 use Rattle.words.proofs.Placing.{tail-is}
 use Rattle.format.proofs.Outcomes.{was-ok, was-refused, carried}

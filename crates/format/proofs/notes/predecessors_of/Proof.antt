@@ -7,7 +7,8 @@ use mathlib.Core.List.{List, [], _∷_, _++_, append-nil}
 use lib.ListN.{length, set, length-append}
 use Rattle.model.specs.Jobs.{asList}
 use Rattle.format.specs.Reading.{listedIn}
-use Rattle.format.specs.Rows.{padded, mostPredecessors}
+use Rattle.words.specs.Padded.{padded}
+use Rattle.format.specs.Rows.{mostPredecessors}
 use Rattle.format.specs.Results.{optionOf, predecessorsOf}
 use Rattle.format.specs.declared.notes.Predecessors.{Predecessors}
 use Rattle.format.proofs.Listed.{listed-few, padded-set}

@@ -4,7 +4,7 @@ use native.Mathlib.Omega.{arith}
 use denote.Ref.{now}
 use lib.ListN.{length-set}
 use Rattle.format.specs.Bytes.{be32}
-use Rattle.words.specs.Placed.{placed}
+use Rattle.words.specs.internal.Placed.{placed}
 use Rattle.format.specs.Tables.{bellAt, demandWords}
 use Rattle.words.proofs.Placing.{stored}
 use borrow.Author.Needs.{needs}

@@ -6,7 +6,7 @@ use Rattle.model.specs.Jobs.{asList}
 use Rattle.format.specs.Bytes.{be32}
 use Rattle.format.specs.Reading.{listedIn, noteIn}
 use Rattle.format.specs.Results.{optionOf}
-use Rattle.words.specs.Placed.{placed}
+use Rattle.words.specs.internal.Placed.{placed}
 use Rattle.format.specs.Tables.{bellAt, countWord, bellWord, demandWords, predecessorWords, originWords}
 use Rattle.format.proofs.Listed.{listed-few}
 use Rattle.format.proofs.JobRows.{row-made}

@@ -4,7 +4,7 @@ use native.Mathlib.Omega.{arith}
 use denote.Ref.{now}
 use mathlib.Core.List.{[], _∷_}
 use Rattle.format.specs.Reading.{noteIn}
-use Rattle.words.specs.Placed.{placed}
+use Rattle.words.specs.internal.Placed.{placed}
 use Rattle.format.specs.Tables.{bellWord, originWords}
 use Rattle.words.proofs.Placing.{stored}
 use borrow.Author.Needs.{needs}

@@ -7,9 +7,10 @@ use mathlib.Core.List.{List, [], _∷_, _++_}
 use lib.ListN.{length, getD, length-set}
 use Rattle.model.specs.Jobs.{asList}
 use Rattle.format.specs.Reading.{listedIn}
-use Rattle.format.specs.Rows.{padded, mostPredecessors}
+use Rattle.words.specs.Padded.{padded}
+use Rattle.format.specs.Rows.{mostPredecessors}
 use Rattle.format.specs.Results.{optionOf}
-use Rattle.words.specs.Placed.{placed}
+use Rattle.words.specs.internal.Placed.{placed}
 use Rattle.format.specs.Tables.{countWord, predecessorWords}
 use Rattle.words.proofs.Placing.{stored}
 use Rattle.format.proofs.Listed.{listed-few, padded-length, five-words}

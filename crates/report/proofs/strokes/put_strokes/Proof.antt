@@ -6,7 +6,7 @@ use native.Mathlib.Omega.{arith}
 use lib.ListN.{length}
 use denote.Ref.{now}
 use borrow.Author.Needs.{needs}
-use Rattle.words.specs.Placed.{placed}
+use Rattle.words.specs.internal.Placed.{placed}
 use Rattle.text.specs.Written.{Written}
 use Rattle.text.proofs.Writing.{more, room-rest}
 use Rattle.report.specs.Lines.{strokeLine, lines}

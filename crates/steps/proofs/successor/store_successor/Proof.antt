@@ -9,7 +9,7 @@ use borrow.Author.Needs.{needs}
 use Rattle.model.specs.Limits.{latestTime}
 use Rattle.model.specs.States.{Range, State}
 use Rattle.model.specs.Exploration.{full, limited, stored, stateWords}
-use Rattle.model.proofs.Bounds.{Bounded}
+use Rattle.model.specs.internal.Bounds.{Bounded}
 use Rattle.states.specs.Slots.{setOf, stateOf, statesOf, Sound}
 use Rattle.slots.specs.Writing.{withStart}
 use Rattle.slots.proofs.Starts.{joined-fits}

@@ -4,7 +4,7 @@ use mathlib.Core.Path.{sym, ap, _∙_, subst}
 use native.Mathlib.Omega.{arith}
 use borrow.Author.Needs.{needs}
 use Rattle.model.specs.States.{State, started}
-use Rattle.model.proofs.Sorted.{Ordered}
+use Rattle.model.specs.internal.Sorted.{Ordered}
 use Rattle.slots.specs.Writing.{withStart}
 use Rattle.steps.proofs.successor.write_successor.Statement.{statement}
 use Rattle.steps.proofs.successor.write_successor.Tie as tie

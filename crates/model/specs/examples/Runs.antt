@@ -5,7 +5,7 @@ use mathlib.Core.List.{List, [], _∷_, map}
 use lib.ListN.{getD}
 use Rattle.model.specs.Jobs.{Job}
 use Rattle.model.specs.Dispatch.{Moment, waiting, running, done, run}
-use Rattle.model.specs.Marked.{dueWaiting, stroke, onOwnBells, phraseP}
+use Rattle.model.specs.examples.Marked.{dueWaiting, stroke, onOwnBells, phraseP}
 
 -- a phrase on so many cores, the release and execution times of its jobs, and the state of the run that is due at a moment
 pub record Case : Type 0 where

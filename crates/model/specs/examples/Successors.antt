@@ -4,7 +4,7 @@ use mathlib.Core.List.{List, [], _∷_}
 use Rattle.model.specs.Jobs.{Job}
 use Rattle.model.specs.States.{State, range, initial}
 use Rattle.model.specs.Edges.{successor}
-use Rattle.model.specs.Marked.{stroke, onOwnBells}
+use Rattle.model.specs.examples.Marked.{stroke, onOwnBells}
 
 -- Example 1 of Nasri, Nelissen and Brandenburg: three jobs on three cores, whose finish times lie in 10..45, 30..40 and 15..25.
 abbrev pub threeJobs : List Job

@@ -11,8 +11,8 @@ use Rattle.model.specs.Jobs.{Job}
 use Rattle.model.specs.Dispatch.{Scenario, waiting, running, done, status, run}
 use Rattle.model.specs.States.{Range, empty, range, latest}
 use Rattle.model.specs.Guarantee.{WellFormed, Admissible, statusAt, Contains, Overlap, Kept}
-use Rattle.model.specs.Marked.{stroke, onOwnBells, m1, phraseP}
-use Rattle.model.specs.Marked.{waiting as waits}
+use Rattle.model.specs.examples.Marked.{stroke, onOwnBells, m1, phraseP}
+use Rattle.model.specs.examples.Marked.{waiting as waits}
 
 -- ---- the moments of a range: its ends are among them
 

@@ -1,0 +1,6 @@
+-- Worked examples of the definitions: document 01's marked phrases, and more.
+pub mod Marked
+pub mod Cautions
+pub mod Successors
+pub mod Runs
+pub mod Instances
