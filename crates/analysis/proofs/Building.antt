@@ -24,8 +24,8 @@ use Rattle.store.proofs.Indexing.{nothing-indexed}
 use Rattle.steps.specs.Observed.{observedOf, Observed}
 use Rattle.steps.specs.Progress.{progressOf, Half, Target, HalfAt, Leaves}
 use Rattle.analysis.specs.Outcomes.{Halves}
-use Rattle.steps.specs.declared.Step.{Step}
-use Rattle.steps.specs.declared.Step.the-variants.{Going, Full, Late}
+use Rattle.steps.specs.declared.step.Step.{Step}
+use Rattle.steps.specs.declared.step.Step.the-variants.{Going, Full, Late}
 use Rattle.steps.proofs.Following.{Stopped, jobs-stopped}
 use Rattle.analysis.proofs.Halves.{put-put, source-kept}
 

@@ -20,8 +20,8 @@ use Rattle.states.specs.Slots.{stateOf, slotOf, statesOf}
 use Rattle.steps.specs.Observed.{observedOf, Observed}
 use Rattle.steps.specs.Progress.{progressOf, Half, HalfAt, Leaves}
 use Rattle.analysis.specs.Outcomes.{Halves}
-use Rattle.steps.specs.declared.Step.{Step}
-use Rattle.steps.specs.declared.Step.the-variants.{Going, Full, Late}
+use Rattle.steps.specs.declared.step.Step.{Step}
+use Rattle.steps.specs.declared.step.Step.the-variants.{Going, Full, Late}
 use Rattle.steps.proofs.Following.{Stopped}
 use Rattle.analysis.proofs.Halves.{Roles, roles-apart, roles-change}
 

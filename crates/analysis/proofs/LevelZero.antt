@@ -24,7 +24,7 @@ use Rattle.words.specs.internal.Parts.{part}
 use Rattle.jobs.specs.Rows.{jobsOf}
 use Rattle.jobs.proofs.Jobs.{length-jobs}
 use Rattle.states.specs.Slots.{possiblyAt, certainlyAt, setOf, rangeAt, stateOf, slotOf, statesOf, Sound}
-use Rattle.slots.proofs.Frames.{same-state}
+use Rattle.states.proofs.Frames.{same-state}
 use Rattle.steps.specs.Observed.{observedWords, observedAt, observedOf, Observed}
 use Rattle.steps.specs.Progress.{Half}
 use Rattle.analysis.proofs.Halves.{part-part}

@@ -14,12 +14,12 @@ ghost use Rattle.steps.specs.Observed.{observedWords, observedOf, Observed};
 ghost use Rattle.steps.specs.Progress.{Half, Leaves};
 ghost use Rattle.analysis.specs.Outcomes.{Halves, verdictIn};
 use edges::write_predecessor_sets;
-use jobs::MOST_JOBS;
-use states::state_words;
-use steps::Step;
+use model::limits::MOST_JOBS;
+use states::copying::load_state;
+use states::sizes::MOST_STATE_WORDS;
+use states::sizes::state_words;
 use steps::explore::try_state;
-use steps::successor::MOST_STATE_WORDS;
-use steps::successor::load_state;
+use steps::step::Step;
 use store::BUCKETS;
 use words::clear;
 

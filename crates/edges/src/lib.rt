@@ -20,10 +20,10 @@ use jobs::is_predecessor;
 use jobs::latest_release;
 use jobs::predecessor;
 use jobs::predecessor_count;
-use states::SET_WORDS;
-use states::earliest_finish;
-use states::latest_finish;
-use states::started_set;
+use states::reading::earliest_finish;
+use states::reading::latest_finish;
+use states::reading::started_set;
+use states::sizes::SET_WORDS;
 use words::larger;
 use words::smaller;
 

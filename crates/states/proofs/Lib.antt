@@ -1,3 +1,10 @@
--- Laws of the words of a state.
+-- Laws of sets as bits, of the words of a state, of a sorted list that takes an element, of two lists side by side, and of the words that a copy, a start or
+-- a merge leaves.
 pub mod Bits
-pub mod Reading
+pub mod Contents
+pub mod Sorting
+pub mod Pairs
+pub mod Frames
+pub mod Copies
+pub mod Starts
+pub mod Merges

@@ -1,2 +1,3 @@
--- States in words.
+-- States in words, and what writing them leaves.
 pub mod Slots
+pub mod Writing

@@ -19,7 +19,7 @@ use Rattle.model.proofs.Bounds.{earliest-start-up-to, latest-start-up-to, succe
 use Rattle.model.specs.internal.Bounds.{TimedUpTo, Bounded}
 use Rattle.jobs.specs.Rows.{jobsOf, Setting, word, leastExecutionAt, mostExecutionAt}
 use Rattle.jobs.proofs.Jobs.{length-jobs, field-of}
-use Rattle.slots.specs.Writing.{withStart}
+use Rattle.states.specs.Writing.{withStart}
 use Rattle.edges.specs.declared.Edge.the-variants.{NotEligible, Starts}
 use Rattle.edges.specs.Edges.{edgeOf, candidates}
 use Rattle.edges.proofs.Listing.{fold-listed, fold-turn}

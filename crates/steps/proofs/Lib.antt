@@ -1,4 +1,3 @@
 -- Laws that belong to no one function.
 pub mod Ranges
-pub mod Copies
 pub mod Following

@@ -12,8 +12,8 @@ use Rattle.jobs.specs.Rows.{jobsOf, Setting}
 use Rattle.states.specs.Slots.{statesOf, Sound, AllSound}
 use Rattle.store.specs.Half.{Indexed}
 use Rattle.steps.specs.Observed.{observedOf, Observed}
-use Rattle.steps.specs.declared.Step.{Step}
-use Rattle.steps.specs.declared.Step.the-variants.{Going, Full, Late}
+use Rattle.steps.specs.declared.step.Step.{Step}
+use Rattle.steps.specs.declared.step.Step.the-variants.{Going, Full, Late}
 
 -- the exploration, with these observed ranges and c states counted before
 abbrev pub progressOf : ℕ → ℕ → List Range → ℕ → Step → List ℕ → Exploration

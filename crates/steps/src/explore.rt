@@ -11,17 +11,17 @@ ghost use Rattle.edges.specs.Edges.{edgeOf, candidates, PredecessorSets};
 ghost use Rattle.edges.specs.declared.Edge.the-variants.{Starts};
 ghost use Rattle.steps.specs.Observed.{observedOf, Observed};
 ghost use Rattle.steps.specs.Progress.{Target, Leaves, Explores, Follows};
-use crate::Step;
 use crate::observed::observe;
+use crate::step::Step;
 use crate::successor::store_successor;
 use edges::Edge;
 use edges::edge_of;
 use edges::list_candidates;
 use edges::work_conserving_bound;
-use jobs::MOST_JOBS;
 use jobs::deadline;
 use jobs::least_execution;
 use jobs::most_execution;
+use model::limits::MOST_JOBS;
 
 // Follows an edge: job i starts at s at the earliest, and finishes from e to f.
 pub fn follow(

@@ -1,14 +1,5 @@
 // One state explored: its edges, and what each leaves in the half of the next level.
 pub mod explore;
 pub mod observed;
+pub mod step;
 pub mod successor;
-
-// What exploring leaves in the half of the next level.
-pub enum Step {
-    // It holds so many states.
-    Going(usize),
-    // It has no room for a state of this level.
-    Full(u32),
-    // A job misses its deadline, with these finish times.
-    Late(usize, u32, u32),
-}

@@ -5,7 +5,7 @@ ghost use Rattle.model.specs.Limits.{mostJobs};
 ghost use Rattle.model.specs.States.{range};
 ghost use Rattle.model.specs.Exploration.{observed};
 ghost use Rattle.steps.specs.Observed.{observedOf, Observed};
-use jobs::MOST_JOBS;
+use model::limits::MOST_JOBS;
 use ranges::FinishRange;
 use ranges::widened_in_place;
 

@@ -11,28 +11,16 @@ ghost use Rattle.model.specs.Exploration.{stateWords, limited, stored};
 ghost use Rattle.model.specs.internal.Sorted.{Ordered};
 ghost use Rattle.model.specs.internal.Bounds.{Bounded};
 ghost use Rattle.states.specs.Slots.{setOf, stateOf, statesOf};
-ghost use Rattle.slots.specs.Writing.{withStart};
+ghost use Rattle.states.specs.Writing.{withStart};
 ghost use Rattle.store.specs.Half.{SetsFit, Indexed};
 ghost use Rattle.steps.specs.Progress.{progressOf, Half, HalfAt};
-use crate::Step;
-use slots::start_job;
-use states::level_of;
-use states::state_words;
+use crate::step::Step;
+use states::copying::load_state;
+use states::reading::level_of;
+use states::sizes::MOST_STATE_WORDS;
+use states::starting::start_job;
 use store::Stored;
 use store::store_state;
-use words::copy;
-
-// The words of the largest state: 8 cores, 64 jobs.
-pub const MOST_STATE_WORDS: usize = 2 + 2 * 8 + 2 * 64;
-
-// Copies the state that begins `src` to the front of `cur`.
-pub fn load_state(cur: &mut [u32], src: &[u32], m: usize, k: usize)
-    requires { ⌜ (m ≤ mostCores) × (k ≤ mostJobs) × (stateWords m k ≤ length (now cur)) × (stateWords m k ≤ length (now src)) ⌝ }
-    ensures { λ _. ⌜ (stateOf m k (now (cur .exit)) ≡ stateOf m k (now (src .entry))) × (setOf (now (cur .exit)) ≡ setOf (now (src .entry))) ⌝ }
-{
-    let w = state_words(m, k);
-    copy(&mut cur[0..w], &src[0..w]);
-}
 
 // Writes the state that follows `cur` once job i starts at s at the earliest, to finish from e to f.
 pub fn write_successor(

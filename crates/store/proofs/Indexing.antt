@@ -12,7 +12,7 @@ use lib.Seq.{getD-set-same, getD-set-other}
 use borrow.Author.Count.{below-more}
 use Rattle.model.specs.Exploration.{mergeable}
 use Rattle.states.specs.Slots.{setOf, stateOf, slotOf}
-use Rattle.slots.proofs.Merges.{mergeable-set}
+use Rattle.states.proofs.Merges.{mergeable-set}
 use Rattle.store.specs.Half.{SetsFit, NoneMerges, buckets, bucketOf, bucketAt, Indexed, FirstOf}
 
 pub bucket-inside : (x : ℕ) → bucketOf x < buckets

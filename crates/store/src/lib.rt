@@ -9,10 +9,10 @@ ghost use Rattle.model.specs.States.{Range};
 ghost use Rattle.model.specs.Exploration.{merge, stored, limited, stateWords};
 ghost use Rattle.states.specs.Slots.{setOf, stateOf, slotOf, statesOf, Sound, AllSound};
 ghost use Rattle.store.specs.Half.{levelOf, SoundAt, SetsFit, NoneMerges, FirstMerging, OthersKept, buckets, bucketOf, Indexed, IndexedAt, FirstOf};
-use slots::can_merge;
-use slots::merge_into;
-use states::started_set;
-use states::state_words;
+use states::merging::can_merge;
+use states::merging::merge_into;
+use states::reading::started_set;
+use states::sizes::state_words;
 use words::copy;
 
 pub enum Stored {

@@ -10,7 +10,7 @@ use Rattle.model.specs.States.{Range}
 use Rattle.model.specs.Exploration.{limited, stored}
 use Rattle.jobs.specs.Rows.{jobsOf}
 use Rattle.states.specs.Slots.{stateOf, statesOf}
-use Rattle.slots.specs.Writing.{withStart}
+use Rattle.states.specs.Writing.{withStart}
 use Rattle.steps.specs.Observed.{observedOf}
 use Rattle.steps.proofs.Following.{inside, most-positive, fresh, takes-time, new-bounded, edge-late, edge-kept}
 use borrow.Author.Needs.{needs}

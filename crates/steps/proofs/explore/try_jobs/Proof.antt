@@ -13,7 +13,7 @@ use Rattle.states.specs.Slots.{stateOf, statesOf}
 use Rattle.edges.proofs.Listing.{listed-candidate}
 use Rattle.steps.specs.Observed.{observedOf, Observed}
 use Rattle.steps.specs.Progress.{progressOf, Target, HalfAt}
-use Rattle.steps.specs.declared.Step.{Step}
+use Rattle.steps.specs.declared.step.Step.{Step}
 use Rattle.steps.proofs.Following.{tryListed, one-more, all-tried, stopped}
 use Rattle.steps.proofs.explore.try_jobs.Statement.{statement}
 use Rattle.steps.proofs.explore.try_jobs.Tie as tie

@@ -11,8 +11,8 @@ use Rattle.model.specs.States.{Range, State}
 use Rattle.model.specs.Exploration.{full, limited, stored, stateWords}
 use Rattle.model.specs.internal.Bounds.{Bounded}
 use Rattle.states.specs.Slots.{setOf, stateOf, statesOf, Sound}
-use Rattle.slots.specs.Writing.{withStart}
-use Rattle.slots.proofs.Starts.{joined-fits}
+use Rattle.states.specs.Writing.{withStart}
+use Rattle.states.proofs.Starts.{joined-fits}
 use Rattle.store.specs.Half.{levelOf, SoundAt, IndexedAt}
 use Rattle.store.specs.declared.Stored.{Stored}
 use Rattle.steps.proofs.successor.store_successor.Statement.{statement}

@@ -1,2 +1,0 @@
--- What writing a state leaves.
-pub mod Writing

@@ -1,0 +1,18 @@
+// A state copied.
+ghost use mathlib.Core.Path.{_≡_};
+ghost use Prim.Native.Nat.{_≤_};
+ghost use lib.ListN.{length};
+ghost use Rattle.model.specs.Limits.{mostCores, mostJobs};
+ghost use Rattle.model.specs.Exploration.{stateWords};
+ghost use Rattle.states.specs.Slots.{setOf, stateOf};
+use crate::sizes::state_words;
+use words::copy;
+
+// Copies the state that begins `src` to the front of `cur`.
+pub fn load_state(cur: &mut [u32], src: &[u32], m: usize, k: usize)
+    requires { ⌜ (m ≤ mostCores) × (k ≤ mostJobs) × (stateWords m k ≤ length (now cur)) × (stateWords m k ≤ length (now src)) ⌝ }
+    ensures { λ _. ⌜ (stateOf m k (now (cur .exit)) ≡ stateOf m k (now (src .entry))) × (setOf (now (cur .exit)) ≡ setOf (now (src .entry))) ⌝ }
+{
+    let w = state_words(m, k);
+    copy(&mut cur[0..w], &src[0..w]);
+}
