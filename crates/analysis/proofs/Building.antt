@@ -1,16 +1,18 @@
 -- One level built from the states of another: what holds before each state, and what each leaves. Assumes nothing.
 use Prim.Native.Nat.{ℕ, zero, suc, _+_, _*_, _-_, _≤_, _<_}
 use mathlib.Core.Path.{_≡_, refl, sym, ap, _∙_, subst}
+use mathlib.Core.Logic.{_⊎_}
 use mathlib.Core.List.{List, [], _∷_}
 use native.Mathlib.Nat.{sub-zero}
 use native.Mathlib.Numerals.{add-one}
 use native.Mathlib.Omega.{arith}
 use lib.ListN.{length}
+use denote.Enum.Declared.{tagOf}
 use borrow.Rule.Slice.PartMut.{putMid, put-same}
 use Rattle.model.specs.Limits.{latestTime}
 use Rattle.model.specs.Jobs.{Job}
 use Rattle.model.specs.States.{State}
-use Rattle.model.specs.Exploration.{Exploration, going, full, miss, tryJobs, tryStates, stateWords}
+use Rattle.model.specs.Exploration.{Exploration, going, tryJobs, tryStates, stateWords}
 use Rattle.model.specs.internal.Bounds.{Bounded}
 use Rattle.words.specs.Tabulate.{tabulate}
 use Rattle.words.proofs.Parts.{part-length, part-same, length-put}
@@ -24,9 +26,11 @@ use Rattle.store.proofs.Indexing.{nothing-indexed}
 use Rattle.steps.specs.Observed.{observedOf, Observed}
 use Rattle.steps.specs.Progress.{progressOf, Half, Target, HalfAt, Leaves}
 use Rattle.analysis.specs.Outcomes.{Halves}
+use Rattle.steps.specs.declared.shape.Shape.{Shape}
 use Rattle.steps.specs.declared.step.Step.{Step}
-use Rattle.steps.specs.declared.step.Step.the-variants.{Going, Full, Late}
-use Rattle.steps.proofs.Following.{Stopped, jobs-stopped}
+use Rattle.steps.specs.declared.step.Step.the-variants.{Going}
+use Rattle.steps.proofs.step.Step.{the-type}
+use Rattle.steps.proofs.Following.{Stopped, jobs-stopped, ended}
 use Rattle.analysis.proofs.Halves.{put-put, source-kept}
 
 -- ---- an exploration that has stopped stays
@@ -55,6 +59,10 @@ module _ (js : List Job) (cap : ℕ) where
         none = omega arith
 
 -- ---- the level while it is built
+
+-- these sizes of a check
+abbrev pub shaped : ℕ → ℕ → ℕ → Shape
+shaped k m cap = record { cores = m; jobs = k; capacity = cap }
 
 cut : (a b : ℕ) → a + b - a ≡ b
 cut a b = omega arith
@@ -111,7 +119,7 @@ module _ {rows : List ℕ} {k m cap from to n : ℕ} {table₀ seen₀ table see
 
   -- what the level's end leaves, and that the rest of the table is as it was
   abbrev Built : Step → List ℕ → List ℕ → List ℕ → Type 0
-  Built r table seen heads = Leaves js m k cap Next r (part to size table) seen heads × (table ≡ putMid to size table₀ (part to size table))
+  Built r table seen heads = Leaves js (shaped k m cap) Next r (part to size table) seen heads × (table ≡ putMid to size table₀ (part to size table))
 
   -- state j lies in the half that is read
   source-inside : j < n → from + j * W + W ≤ length table₀
@@ -168,7 +176,7 @@ module _ {rows : List ℕ} {k m cap from to n : ℕ} {table₀ seen₀ table see
           }
 
       module _ {r : Step} {half seen′ heads′ : List ℕ} (kept : length half ≡ length (part to span table))
-          (leaves : Leaves js m k cap (λ c. tryJobs js cap (stateOf m k cur) k (going (statesOf m k (part to span table) built) (observedOf k seen) c)) r half seen′ heads′) where
+          (leaves : Leaves js (shaped k m cap) (λ c. tryJobs js cap (stateOf m k cur) k (going (statesOf m k (part to span table) built) (observedOf k seen) c)) r half seen′ heads′) where
         abbrev table′ : List ℕ
         table′ = putMid to span table half
 
@@ -221,10 +229,15 @@ module _ {rows : List ℕ} {k m cap from to n : ℕ} {table₀ seen₀ table see
             let rest = tabulate source (j + 1) (n - (j + 1)) in
             sym (states-stopped js cap rest x h) ∙ ap (tryStates js cap rest) (sym e) ∙ after c
 
-        pub building-full : {l : ℕ} → r ≡ Full l → Built (Full l) table′ seen′ heads′
-        building-full {l} e =
-            (record { same = λ c. stays (full l) tt c (ap (λ (z : Step). progressOf m k (observedOf k seen′) c z half) e); sound = tt; observed = leaves .observed }, framed)
-
-        pub building-late : {i early last : ℕ} → r ≡ Late i early last → Built (Late i early last) table′ seen′ heads′
-        building-late {i} {early} {last} e =
-            (record { same = λ c. stays (miss i early last) tt c (ap (λ (z : Step). progressOf m k (observedOf k seen′) c z half) e); sound = tt; observed = leaves .observed }, framed)
+        -- a step that does not go on ends the level
+        pub building-stops : (tagOf the-type r ≡ 1) ⊎ (tagOf the-type r ≡ 2) → Built r table′ seen′ heads′
+        building-stops h = (
+          record {
+            same = λ c.
+                ap (progressOf m k (observedOf k seen′) c r) put
+                ∙ stays (progressOf m k (observedOf k seen′) c r half) (ended r h m k (observedOf k seen′) c half) c refl;
+            sound = subst (λ (z : List ℕ). HalfAt js m k cap r z heads′) (sym put) (leaves .sound);
+            observed = leaves .observed;
+          },
+          framed,
+        )

@@ -23,6 +23,7 @@ use Rattle.analysis.specs.Outcomes.{Halves}
 use Rattle.steps.specs.declared.step.Step.{Step}
 use Rattle.steps.specs.declared.step.Step.the-variants.{Going, Full, Late}
 use Rattle.steps.proofs.Following.{Stopped}
+use Rattle.analysis.proofs.Building.{shaped}
 use Rattle.analysis.proofs.Halves.{Roles, roles-apart, roles-change}
 
 -- ---- an analysis that has stopped stays
@@ -103,7 +104,7 @@ module _ {rows : List ℕ} {k m cap : ℕ} {table₀ table seen : List ℕ} {fro
       (ap verdictOf (before .same ∙ ap (explored js m cap) e), (before .observed, before .past))
 
   module _ {r : Step} {table′ seen′ heads : List ℕ} (more : level < k) (kept : length table′ ≡ length table)
-      (leaves : Leaves js m k cap (λ c. tryStates js cap (statesOf m k (part from size table) n) (going [] (observedOf k seen) c)) r (part to size table′) seen′ heads)
+      (leaves : Leaves js (shaped k m cap) (λ c. tryStates js cap (statesOf m k (part from size table) n) (going [] (observedOf k seen) c)) r (part to size table′) seen′ heads)
       (frame : table′ ≡ putMid to size table (part to size table′)) where
     next : counted (progressOf m k (observedOf k seen′) count r (part to size table′)) ≡ explored js m cap (level + 1)
     unfolding nextLevel

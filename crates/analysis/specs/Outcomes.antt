@@ -1,11 +1,16 @@
 -- The two halves of the table, and the answer that an outcome gives with the words of the observed ranges. Assumes nothing.
-use Prim.Native.Nat.{ℕ, _+_, _≤_}
+use Prim.Native.Nat.{ℕ, _+_, _*_, _≤_}
 use mathlib.Core.Logic.{_⊎_}
 use mathlib.Core.List.{List}
-use Rattle.model.specs.Exploration.{Verdict, accepted, refused, late}
+use Rattle.model.specs.Exploration.{Verdict, accepted, refused, late, stateWords}
 use Rattle.steps.specs.Observed.{observedOf}
+use Rattle.steps.specs.declared.shape.Shape.{Shape}
 use Rattle.analysis.specs.declared.levels.Outcome.{Outcome}
 use Rattle.analysis.specs.declared.levels.Outcome.the-variants.{Accepted, Full, Late}
+
+-- the words of a half
+abbrev pub halfWords : Shape → ℕ
+halfWords shape = shape .capacity * stateWords (shape .cores) (shape .jobs)
 
 -- a half of so many words that is read, and one that is written: both lie in the table, apart from each other
 pub record Halves (words size from to : ℕ) : Type 0 where

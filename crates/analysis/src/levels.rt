@@ -11,14 +11,15 @@ ghost use Rattle.states.specs.Slots.{statesOf};
 ghost use Rattle.edges.specs.Edges.{PredecessorSets};
 ghost use Rattle.store.specs.Half.{buckets};
 ghost use Rattle.steps.specs.Observed.{observedWords, observedOf, Observed};
-ghost use Rattle.steps.specs.Progress.{Half, Leaves};
-ghost use Rattle.analysis.specs.Outcomes.{Halves, verdictIn};
+ghost use Rattle.steps.specs.Progress.{jobsIn, goingIn, Half, Leaves};
+ghost use Rattle.analysis.specs.Outcomes.{Halves, halfWords, verdictIn};
 use edges::write_predecessor_sets;
 use model::limits::MOST_JOBS;
 use states::copying::load_state;
 use states::sizes::MOST_STATE_WORDS;
 use states::sizes::state_words;
 use steps::explore::try_state;
+use steps::shape::Shape;
 use steps::step::Step;
 use store::BUCKETS;
 use words::clear;
@@ -33,31 +34,42 @@ pub enum Outcome {
     Late(usize, u32, u32),
 }
 
-// Explores the n states of the half from word `from` on, in stored order, into the half from word `to` on. The state in hand is a copy: the table is
-// lent on to store what follows it.
+// Where a level stands: its states, from word `from` of the table on. The next is built from word `to` on.
+pub struct Level {
+    pub from: usize,
+    pub states: usize,
+    pub to: usize,
+}
+
+// Explores the states of a level, in stored order. The state in hand is a copy: the table is lent on to store what follows it.
 pub fn build_level(
     table: &mut [u32],
     seen: &mut [u32],
     heads: &mut [usize],
-    from: usize,
-    to: usize,
-    n: usize,
-    cap: usize,
     rows: &[u32],
     sets: &[u64],
-    k: usize,
-    m: usize,
+    shape: Shape,
+    level: Level,
 ) -> Step
-    requires { ⌜ Setting (now rows) k m × (k ≤ length (now sets)) × PredecessorSets (jobsOf (now rows) k) k (now sets) ⌝ }
-    requires { ⌜ Halves (length (now table)) (cap * stateWords m k) from to
-        × Half (jobsOf (now rows) k) m k cap (part from (cap * stateWords m k) (now table)) n × Observed k (now seen)
-        × (length (now heads) ≡ buckets) ⌝ }
-    ensures { λ r. ⌜ Leaves (jobsOf (now (rows .entry)) k) m k cap
-        (λ c. tryStates (jobsOf (now (rows .entry)) k) cap (statesOf m k (part from (cap * stateWords m k) (now (table .entry))) n)
-        (going [] (observedOf k (now (seen .entry))) c)) r (part to (cap * stateWords m k) (now (table .exit))) (now (seen .exit)) (now (heads .exit)) ⌝ }
-    ensures { λ _. ⌜ now (table .exit) ≡ putMid to (cap * stateWords m k) (now (table .entry))
-        (part to (cap * stateWords m k) (now (table .exit))) ⌝ }
+    requires { ⌜ Setting (now rows) (shape .jobs) (shape .cores) × (shape .jobs ≤ length (now sets))
+        × PredecessorSets (jobsIn shape (now rows)) (shape .jobs) (now sets) ⌝ }
+    requires { ⌜ Halves (length (now table)) (halfWords shape) (level .from) (level .to)
+        × Half (jobsIn shape (now rows)) (shape .cores) (shape .jobs) (shape .capacity) (part (level .from) (halfWords shape) (now table)) (level .states)
+        × Observed (shape .jobs) (now seen) × (length (now heads) ≡ buckets) ⌝ }
+    ensures { λ r. ⌜ Leaves (jobsIn shape (now (rows .entry))) shape
+        (λ c. tryStates (jobsIn shape (now (rows .entry))) (shape .capacity)
+        (statesOf (shape .cores) (shape .jobs) (part (level .from) (halfWords shape) (now (table .entry))) (level .states))
+        (going [] (observedOf (shape .jobs) (now (seen .entry))) c))
+        r (part (level .to) (halfWords shape) (now (table .exit))) (now (seen .exit)) (now (heads .exit)) ⌝ }
+    ensures { λ _. ⌜ now (table .exit) ≡ putMid (level .to) (halfWords shape) (now (table .entry))
+        (part (level .to) (halfWords shape) (now (table .exit))) ⌝ }
 {
+    let m = shape.cores;
+    let k = shape.jobs;
+    let cap = shape.capacity;
+    let from = level.from;
+    let n = level.states;
+    let to = level.to;
     let w = state_words(m, k);
     let end = to + cap * w;
     let mut built = 0;
@@ -67,50 +79,37 @@ pub fn build_level(
         let at = from + j * w;
         let next = at + w;
         load_state(&mut cur, &table[at..next], m, k);
-        match try_state(
+        let step = try_state(
             &mut table[to..end],
             seen,
             heads,
             built,
-            cap,
             rows,
             sets,
-            k,
             &cur,
-            m,
-        ) {
-            Step::Going(x) => {
-                built = x;
-            }
-            Step::Full(l) => {
-                return Step::Full(l);
-            }
-            Step::Late(i, e, f) => {
-                return Step::Late(i, e, f);
-            }
-        }
+            shape,
+        );
+        let Step::Going(x) = step else {
+            return step;
+        };
+        built = x;
         j += 1;
     }
     Step::Going(built)
 }
 
 // Builds level after level, from level 0 in the lower half on: the halves change roles. The index needs no clearing between levels.
-pub fn climb_levels(
-    table: &mut [u32],
-    seen: &mut [u32],
-    cap: usize,
-    rows: &[u32],
-    k: usize,
-    m: usize,
-) -> Outcome
-    requires { ⌜ Setting (now rows) k m × (2 * (cap * stateWords m k) ≤ length (now table))
-        × Half (jobsOf (now rows) k) m k cap (part 0 (cap * stateWords m k) (now table)) 1 × Observed k (now seen) ⌝ }
-    requires { ⌜ going (statesOf m k (part 0 (cap * stateWords m k) (now table)) 1) (observedOf k (now seen)) 1
-        ≡ explored (jobsOf (now rows) k) m cap 0 ⌝ }
-    ensures { λ r. ⌜ verdictIn k r (now (seen .exit)) ≡ analysis (jobsOf (now (rows .entry)) k) m cap ⌝ }
-    ensures { λ _. ⌜ Observed k (now (seen .exit)) ⌝ }
-    ensures { λ _. ⌜ drop (2 * (cap * stateWords m k)) (now (table .exit)) ≡ drop (2 * (cap * stateWords m k)) (now (table .entry)) ⌝ }
+pub fn climb_levels(table: &mut [u32], seen: &mut [u32], rows: &[u32], shape: Shape) -> Outcome
+    requires { ⌜ Setting (now rows) (shape .jobs) (shape .cores) × (2 * halfWords shape ≤ length (now table))
+        × Half (jobsIn shape (now rows)) (shape .cores) (shape .jobs) (shape .capacity) (part 0 (halfWords shape) (now table)) 1 × Observed (shape .jobs) (now seen) ⌝ }
+    requires { ⌜ goingIn shape (part 0 (halfWords shape) (now table)) 1 (now seen) 1 ≡ explored (jobsIn shape (now rows)) (shape .cores) (shape .capacity) 0 ⌝ }
+    ensures { λ r. ⌜ verdictIn (shape .jobs) r (now (seen .exit)) ≡ analysis (jobsIn shape (now (rows .entry))) (shape .cores) (shape .capacity) ⌝ }
+    ensures { λ _. ⌜ Observed (shape .jobs) (now (seen .exit)) ⌝ }
+    ensures { λ _. ⌜ drop (2 * halfWords shape) (now (table .exit)) ≡ drop (2 * halfWords shape) (now (table .entry)) ⌝ }
 {
+    let m = shape.cores;
+    let k = shape.jobs;
+    let cap = shape.capacity;
     let w = state_words(m, k);
     let mut sets = [0u64; MOST_JOBS];
     write_predecessor_sets(rows, k, &mut sets);
@@ -118,10 +117,15 @@ pub fn climb_levels(
     let mut to = cap * w;
     let mut n = 1;
     let mut count = 1u64;
-    let mut level = 0;
+    let mut depth = 0;
     let mut heads = [0usize; BUCKETS];
-    while level < k {
-        match build_level(table, seen, &mut heads, from, to, n, cap, rows, &sets, k, m) {
+    while depth < k {
+        let level = Level {
+            from,
+            states: n,
+            to,
+        };
+        match build_level(table, seen, &mut heads, rows, &sets, shape, level) {
             Step::Going(x) => {
                 n = x;
                 count += x as u64;
@@ -136,7 +140,7 @@ pub fn climb_levels(
         let t = from;
         from = to;
         to = t;
-        level += 1;
+        depth += 1;
     }
     Outcome::Accepted(count)
 }
@@ -156,5 +160,10 @@ pub fn analyse(table: &mut [u32], seen: &mut [u32], rows: &[u32], k: usize, m: u
         return Outcome::Full(0);
     }
     clear(&mut table[0..w]);
-    climb_levels(table, seen, cap, rows, k, m)
+    let shape = Shape {
+        cores: m,
+        jobs: k,
+        capacity: cap,
+    };
+    climb_levels(table, seen, rows, shape)
 }

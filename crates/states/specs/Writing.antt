@@ -5,6 +5,7 @@ use mathlib.Core.List.{List, zipWith}
 use lib.ListN.{set, take, drop}
 use Rattle.model.specs.States.{State, range}
 use Rattle.model.specs.Edges.{availability}
+use Rattle.states.specs.declared.starting.JobStart.{JobStart}
 
 -- the state once job i has started, at s at the earliest, to finish from e to f
 abbrev pub withStart : State → ℕ → ℕ → ℕ → ℕ → State
@@ -14,6 +15,9 @@ withStart σ i s e f =
       possiblyFree = availability s e (σ .possiblyFree);
       certainlyFree = availability s f (σ .certainlyFree);
     }
+
+abbrev pub afterStart : State → JobStart → State
+afterStart σ x = withStart σ (x .job) (x .start) (x .earliest) (x .latest)
 
 -- from word a on d and s have n ranges, n lower ends before n upper ones: out has each as the smallest that contains both, and d's words around them
 pub record Widened (a n : ℕ) (d s out : List ℕ) : Type 0 where

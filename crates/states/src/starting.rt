@@ -9,12 +9,20 @@ ghost use Rattle.model.specs.Edges.{availability};
 ghost use Rattle.model.specs.Exploration.{stateWords};
 ghost use Rattle.model.specs.internal.Sorted.{Sorted, Ordered};
 ghost use Rattle.states.specs.Slots.{setOf, stateOf};
-ghost use Rattle.states.specs.Writing.{withStart};
+ghost use Rattle.states.specs.Writing.{afterStart};
 use crate::reading::WORD;
 use crate::reading::started_set;
 use crate::sizes::SET_WORDS;
 use words::larger;
 use words::smaller;
+
+// A job that starts: when at the earliest, and when it finishes at the earliest and at the latest.
+pub struct JobStart {
+    pub job: usize,
+    pub start: u32,
+    pub earliest: u32,
+    pub latest: u32,
+}
 
 // The sorted availabilities once a job has started at s at the earliest and finishes at f: f takes the place of the first, and is carried to its own.
 fn update_availability(l: &mut [u32], s: u32, f: u32)
@@ -47,16 +55,16 @@ fn add_job(out: &mut [u32], m: usize, k: usize, i: usize, e: u32, f: u32)
     out[SET_WORDS + 2 * m + k + i] = f;
 }
 
-// Makes the successor of a state in its words: job i starts at s at the earliest and finishes from e to f.
-pub fn start_job(out: &mut [u32], m: usize, k: usize, i: usize, s: u32, e: u32, f: u32)
-    requires { ⌜ (i < k) × (k ≤ mostJobs) × (1 ≤ m) × (stateWords m k ≤ length (now out)) × (setOf (now out) < 2 ^ k)
-        × (started (stateOf m k (now out)) i ≡ false) × Ordered (stateOf m k (now out)) ⌝ }
-    ensures { λ _. ⌜ stateOf m k (now (out .exit)) ≡ withStart (stateOf m k (now (out .entry))) i s e f ⌝ }
-    ensures { λ _. ⌜ setOf (now (out .exit)) ≡ setOf (now (out .entry)) + 2 ^ i ⌝ }
+// Makes the successor of a state in its words.
+pub fn start_job(out: &mut [u32], m: usize, k: usize, start: JobStart)
+    requires { ⌜ (start .job < k) × (k ≤ mostJobs) × (1 ≤ m) × (stateWords m k ≤ length (now out)) × (setOf (now out) < 2 ^ k)
+        × (started (stateOf m k (now out)) (start .job) ≡ false) × Ordered (stateOf m k (now out)) ⌝ }
+    ensures { λ _. ⌜ stateOf m k (now (out .exit)) ≡ afterStart (stateOf m k (now (out .entry))) start ⌝ }
+    ensures { λ _. ⌜ setOf (now (out .exit)) ≡ setOf (now (out .entry)) + 2 ^ start .job ⌝ }
 {
     let certainly = SET_WORDS + m;
     let finish = certainly + m;
-    add_job(out, m, k, i, e, f);
-    update_availability(&mut out[SET_WORDS..certainly], s, e);
-    update_availability(&mut out[certainly..finish], s, f);
+    add_job(out, m, k, start.job, start.earliest, start.latest);
+    update_availability(&mut out[SET_WORDS..certainly], start.start, start.earliest);
+    update_availability(&mut out[certainly..finish], start.start, start.latest);
 }

@@ -3,7 +3,9 @@ use Prim.Native.Nat.{ℕ, zero, suc, _+_, _≤_, _<_}
 use mathlib.Core.Path.{_≡_, refl, sym, ap, _∙_, subst}
 use mathlib.Core.Bool.{Bool, true, false, cond, _&&_}
 use mathlib.Core.List.{List, [], _∷_, foldl, foldl-append}
+use mathlib.Core.Logic.{_⊎_, ⊎-elim}
 use native.Mathlib.Omega.{arith}
+use denote.Enum.Declared.{tagOf}
 use lib.Dec.{leb, ltb}
 use lib.ListN.{getD, length, take, drop, take-append-drop}
 use lib.Seq.{take-all}
@@ -19,11 +21,17 @@ use Rattle.model.proofs.Bounds.{earliest-start-up-to, latest-start-up-to, succe
 use Rattle.model.specs.internal.Bounds.{TimedUpTo, Bounded}
 use Rattle.jobs.specs.Rows.{jobsOf, Setting, word, leastExecutionAt, mostExecutionAt}
 use Rattle.jobs.proofs.Jobs.{length-jobs, field-of}
-use Rattle.states.specs.Writing.{withStart}
+use Rattle.states.specs.declared.starting.JobStart.{JobStart}
+use Rattle.states.specs.Writing.{afterStart}
 use Rattle.edges.specs.declared.Edge.the-variants.{NotEligible, Starts}
 use Rattle.edges.specs.Edges.{edgeOf, candidates}
 use Rattle.edges.proofs.Listing.{fold-listed, fold-turn}
-use Rattle.steps.specs.Progress.{Follows}
+use Rattle.steps.specs.Observed.{observedOf}
+use Rattle.steps.specs.Progress.{goingIn, progressOf, Leaves, Follows}
+use Rattle.steps.specs.declared.shape.Shape.{Shape}
+use Rattle.steps.specs.declared.step.Step.{Step}
+use Rattle.steps.specs.declared.step.Step.the-variants.{Going, Full, Late}
+use Rattle.steps.proofs.step.Step.{the-type}
 
 -- ---- an edge that was found
 
@@ -72,37 +80,53 @@ module _ (rows : List ℕ) (k m : ℕ) (setting : Setting rows k m) (i : ℕ) (h
 
 -- ---- an edge that is followed
 
-module _ (js : List Job) (σ : State) (i s e f : ℕ) (follows : Follows js σ i s e f) where
-  pub fresh : started σ i ≡ false
+-- the moments that the code finds for an edge are those of the definition
+pub found : (js : List Job) (σ : State) (i s t e f : ℕ) → edgeOf js σ i ≡ Starts s t → e ≡ s + job js i .leastExecution → f ≡ t + job js i .mostExecution
+    → Follows js σ (record { job = i; start = s; earliest = e; latest = f })
+unfolding earliestFinish latestFinish
+found js σ i s t e f q p r =
+    let starts = edge-starts js σ i s t q in
+    record { starts = starts .0; start = starts .1; earliest = omega (arith, starts .1, p); latest = omega (arith, starts .2, r) }
+
+module _ (js : List Job) (σ : State) (x : JobStart) (follows : Follows js σ x) where
+  -- the job has not started before
+  pub fresh : started σ (x .job) ≡ false
   unfolding eligible
   fresh =
-      candidate-out js σ i
-      (and-left (candidate js σ i) (leb (earliestStart js σ i) (workConservingBound js σ) && isBelow (earliestStart js σ i) (higherPriorityBound js σ i)) (follows .starts)) .0
+      let bounds = leb (earliestStart js σ (x .job)) (workConservingBound js σ) && isBelow (earliestStart js σ (x .job)) (higherPriorityBound js σ (x .job)) in
+      candidate-out js σ (x .job) (and-left (candidate js σ (x .job)) bounds (follows .starts)) .0
 
-  pub takes-time : 1 ≤ job js i .mostExecution → 1 ≤ f
+  -- a job that takes time finishes after the start of time
+  pub takes-time : 1 ≤ job js (x .job) .mostExecution → 1 ≤ x .latest
   unfolding latestFinish
   takes-time h = omega (arith, follows .latest)
 
-  successor-is : successor js σ i ≡ withStart σ i s e f
+  successor-is : successor js σ (x .job) ≡ afterStart σ x
   unfolding successor
   successor-is = rw (follows .start, follows .earliest, follows .latest)
 
-  pub new-bounded : (d : ℕ) → TimedUpTo d js → Bounded js d σ → i < length js → f ≤ job js i .deadline → Bounded js d (withStart σ i s e f)
+  -- the times of the new state are bounded, where the job is in time
+  pub new-bounded : (d : ℕ) → TimedUpTo d js → Bounded js d σ → x .job < length js → x .latest ≤ job js (x .job) .deadline → Bounded js d (afterStart σ x)
   new-bounded d timed g b h =
-      subst (Bounded js d) successor-is (successor-bounded js d timed σ i (record { inside = b; starts = follows .starts; timely = omega (arith, follows .latest) }) g)
+      subst (Bounded js d) successor-is (successor-bounded js d timed σ (x .job) (record { inside = b; starts = follows .starts; timely = omega (arith, follows .latest) }) g)
 
   module _ (cap : ℕ) (l : List State) (seen : List Range) (c : ℕ) where
-    pub edge-late : job js i .deadline < f → miss i e f ≡ addEdge js cap σ i l seen c
+    -- a job that may finish after its deadline ends the exploration
+    pub edge-late : job js (x .job) .deadline < x .latest → miss (x .job) (x .earliest) (x .latest) ≡ addEdge js cap σ (x .job) l seen c
     unfolding addEdge
-    edge-late h = rw (← follows .earliest, ← follows .latest, lt-ltb (job js i .deadline) f h)
+    edge-late h = rw (← follows .earliest, ← follows .latest, lt-ltb (job js (x .job) .deadline) (x .latest) h)
 
-    pub edge-kept : f ≤ job js i .deadline → limited cap (withStart σ i s e f) (stored (withStart σ i s e f) l) (observed seen i (range e f)) c ≡ addEdge js cap σ i l seen c
+    -- else the new state is stored, and the finish times are observed
+    pub edge-kept : x .latest ≤ job js (x .job) .deadline
+        → limited cap (afterStart σ x) (stored (afterStart σ x) l) (observed seen (x .job) (range (x .earliest) (x .latest))) c ≡ addEdge js cap σ (x .job) l seen c
     unfolding addEdge
     edge-kept h =
-        let make : State → ℕ → ℕ → Exploration = λ τ x y. limited cap τ (stored τ l) (observed seen i (range x y)) c in
+        let i = x .job in
+        let make : State → ℕ → ℕ → Exploration = λ τ e f. limited cap τ (stored τ l) (observed seen i (range e f)) c in
         let test : ltb (job js i .deadline) (latestFinish js σ i) ≡ false = le-ltb (job js i .deadline) (latestFinish js σ i) (omega (arith, follows .latest)) in
         rw test
-        (ap (λ τ. make τ e f) (sym successor-is) ∙ ap (λ x. make (successor js σ i) x f) (follows .earliest) ∙ ap (λ y. make (successor js σ i) (earliestFinish js σ i) y) (follows .latest))
+        (ap (λ τ. make τ (x .earliest) (x .latest)) (sym successor-is) ∙ ap (λ e. make (successor js σ i) e (x .latest)) (follows .earliest)
+        ∙ ap (λ f. make (successor js σ i) (earliestFinish js σ i) f) (follows .latest))
 
 -- ---- the candidates of a state in turn
 
@@ -158,3 +182,49 @@ module _ (js : List Job) (cap : ℕ) (σ : State) where
     stopped y t st e =
         sym (listed-stopped (drop t list) y st) ∙ ap (tryListed (drop t list)) e
         ∙ sym (foldl-append (λ z i. tryJob js cap σ i z) x (take t list) (drop t list)) ∙ ap (λ l. tryListed l x) (take-append-drop t list) ∙ every-candidate
+
+-- ---- the same, by what the words say
+
+-- a step that does not go on has stopped
+pub ended : (r : Step) → (tagOf the-type r ≡ 1) ⊎ (tagOf the-type r ≡ 2) → (m k : ℕ) (seen : List Range) (c : ℕ) (half : List ℕ) → Stopped (progressOf m k seen c r half)
+ended (Going n) h m k seen c half = ⊎-elim (λ (e : tagOf the-type (Going n) ≡ 1). absurd (omega (arith, e))) (λ (e : tagOf the-type (Going n) ≡ 2). absurd (omega (arith, e))) h
+ended (Full l) h m k seen c half = tt
+ended (Late i e f) h m k seen c half = tt
+
+module _ (js : List Job) (shape : Shape) (σ : State) (list : List ℕ) (from : ℕ → Exploration) where
+  -- what is left once the first t of the listed jobs are tried
+  abbrev pub Tried : ℕ → Step → List ℕ → List ℕ → List ℕ → Type 0
+  Tried t = Leaves js shape (λ c. tryListed js (shape .capacity) σ (take t list) (from c))
+
+  -- one job more
+  pub tried-more : (t : ℕ) {stored : ℕ} {half seen heads half′ seen′ heads′ : List ℕ} {r : Step} → t < length list → Tried t (Going stored) half seen heads
+      → Leaves js shape (λ c. tryJob js (shape .capacity) σ (getD list t 0) (goingIn shape half stored seen c)) r half′ seen′ heads′ → Tried (t + 1) r half′ seen′ heads′
+  tried-more t h before leaves =
+      record {
+        same = λ c. leaves .same c ∙ ap (tryJob js (shape .capacity) σ (getD list t 0)) (before .same c) ∙ sym (one-more js (shape .capacity) σ (from c) list t h);
+        sound = leaves .sound;
+        observed = leaves .observed;
+      }
+
+  module _ (listed : list ≡ candidates js σ (shape .jobs)) where
+    -- what is left by every job of the state
+    abbrev pub AllTried : Step → List ℕ → List ℕ → List ℕ → Type 0
+    AllTried = Leaves js shape (λ c. tryJobs js (shape .capacity) σ (shape .jobs) (from c))
+
+    -- the listed jobs are all that matter
+    pub tried-all : (t : ℕ) {r : Step} {half seen heads : List ℕ} → length list ≤ t → Tried t r half seen heads → AllTried r half seen heads
+    tried-all t h leaves =
+        record {
+          same = λ c. leaves .same c ∙ all-tried js (shape .capacity) σ (shape .jobs) list listed (from c) t h;
+          sound = leaves .sound;
+          observed = leaves .observed;
+        }
+
+    -- once stopped, the jobs that are left change nothing
+    pub tried-enough : (t : ℕ) {r : Step} {half seen heads : List ℕ} → (tagOf the-type r ≡ 1) ⊎ (tagOf the-type r ≡ 2) → Tried t r half seen heads → AllTried r half seen heads
+    tried-enough t {r = r} {half = half} {seen = seen} h leaves =
+        record {
+          same = λ c. stopped js (shape .capacity) σ (shape .jobs) list listed (from c) _ t (ended r h (shape .cores) (shape .jobs) (observedOf (shape .jobs) seen) c half) (leaves .same c);
+          sound = leaves .sound;
+          observed = leaves .observed;
+        }

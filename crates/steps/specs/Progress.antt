@@ -9,11 +9,27 @@ use Rattle.model.specs.States.{Range, State}
 use Rattle.model.specs.Edges.{eligible, earliestStart, earliestFinish, latestFinish}
 use Rattle.model.specs.Exploration.{Exploration, going, full, miss, stateWords}
 use Rattle.jobs.specs.Rows.{jobsOf, Setting}
-use Rattle.states.specs.Slots.{statesOf, Sound, AllSound}
+use Rattle.states.specs.declared.starting.JobStart.{JobStart}
+use Rattle.states.specs.Slots.{stateOf, statesOf, Sound, AllSound}
 use Rattle.store.specs.Half.{Indexed}
 use Rattle.steps.specs.Observed.{observedOf, Observed}
+use Rattle.steps.specs.declared.shape.Shape.{Shape}
 use Rattle.steps.specs.declared.step.Step.{Step}
 use Rattle.steps.specs.declared.step.Step.the-variants.{Going, Full, Late}
+
+-- ---- what words say in a check of this shape
+
+abbrev pub jobsIn : Shape → List ℕ → List Job
+jobsIn shape rows = jobsOf rows (shape .jobs)
+
+abbrev pub stateIn : Shape → List ℕ → State
+stateIn shape ws = stateOf (shape .cores) (shape .jobs) ws
+
+-- the exploration that holds the states in the first n slots of a half, with the observed ranges and c states counted before
+abbrev pub goingIn : Shape → List ℕ → ℕ → List ℕ → ℕ → Exploration
+goingIn shape half n seen c = going (statesOf (shape .cores) (shape .jobs) half n) (observedOf (shape .jobs) seen) c
+
+-- ---- how far it has come
 
 -- the exploration, with these observed ranges and c states counted before
 abbrev pub progressOf : ℕ → ℕ → List Range → ℕ → Step → List ℕ → Exploration
@@ -37,22 +53,22 @@ HalfAt js m k cap (Full l) half heads = Unit {0}
 HalfAt js m k cap (Late i e f) half heads = Unit {0}
 
 -- what a step leaves: the words say what the definition's next exploration says, and can be gone on from
-pub record Leaves (js : List Job) (m k cap : ℕ) (next : ℕ → Exploration) (r : Step) (half seen heads : List ℕ) : Type 0 where
-  pub same : (c : ℕ) → progressOf m k (observedOf k seen) c r half ≡ next c
-  pub sound : HalfAt js m k cap r half heads
-  pub observed : Observed k seen
+pub record Leaves (js : List Job) (shape : Shape) (next : ℕ → Exploration) (r : Step) (half seen heads : List ℕ) : Type 0 where
+  pub same : (c : ℕ) → progressOf (shape .cores) (shape .jobs) (observedOf (shape .jobs) seen) c r half ≡ next c
+  pub sound : HalfAt js (shape .cores) (shape .jobs) (shape .capacity) r half heads
+  pub observed : Observed (shape .jobs) seen
 
 -- what is given where the edges of a state are explored: the jobs, the state, the half of the next level and its index, and the observed ranges
-pub record Explores (rows : List ℕ) (k m cap : ℕ) (cur half : List ℕ) (n : ℕ) (seen heads : List ℕ) : Type 0 where
-  pub setting : Setting rows k m
-  pub words : stateWords m k ≤ length cur
-  pub sound : Sound (jobsOf rows k) m k cur
-  pub target : Target (jobsOf rows k) m k cap half heads n
-  pub observed : Observed k seen
+pub record Explores (rows : List ℕ) (shape : Shape) (cur half : List ℕ) (n : ℕ) (seen heads : List ℕ) : Type 0 where
+  pub setting : Setting rows (shape .jobs) (shape .cores)
+  pub words : stateWords (shape .cores) (shape .jobs) ≤ length cur
+  pub sound : Sound (jobsIn shape rows) (shape .cores) (shape .jobs) cur
+  pub target : Target (jobsIn shape rows) (shape .cores) (shape .jobs) (shape .capacity) half heads n
+  pub observed : Observed (shape .jobs) seen
 
--- job i is eligible, and starts and finishes at these moments
-pub record Follows (js : List Job) (σ : State) (i s e f : ℕ) : Type 0 where
-  pub starts : eligible js σ i ≡ true
-  pub start : s ≡ earliestStart js σ i
-  pub earliest : e ≡ earliestFinish js σ i
-  pub latest : f ≡ latestFinish js σ i
+-- the job is eligible, and starts and finishes at these moments
+pub record Follows (js : List Job) (σ : State) (x : JobStart) : Type 0 where
+  pub starts : eligible js σ (x .job) ≡ true
+  pub start : x .start ≡ earliestStart js σ (x .job)
+  pub earliest : x .earliest ≡ earliestFinish js σ (x .job)
+  pub latest : x .latest ≡ latestFinish js σ (x .job)

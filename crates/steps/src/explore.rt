@@ -1,17 +1,15 @@
 // The edges of one state, and what each leaves in the half of the next level, whose index is `heads`.
 ghost use mathlib.Core.Path.{_≡_};
-ghost use mathlib.Core.Bool.{true};
 ghost use Prim.Native.Nat.{_≤_, _<_};
 ghost use lib.ListN.{length};
-ghost use Rattle.model.specs.Edges.{candidate, workConservingBound};
-ghost use Rattle.model.specs.Exploration.{going, addEdge, tryJob, tryJobs, stateWords};
-ghost use Rattle.jobs.specs.Rows.{jobsOf, Setting};
-ghost use Rattle.states.specs.Slots.{stateOf, statesOf, Sound};
+ghost use Rattle.model.specs.Exploration.{addEdge, tryJob, tryJobs, stateWords};
+ghost use Rattle.jobs.specs.Rows.{Setting};
+ghost use Rattle.states.specs.Slots.{statesOf, Sound};
 ghost use Rattle.edges.specs.Edges.{edgeOf, candidates, PredecessorSets};
-ghost use Rattle.edges.specs.declared.Edge.the-variants.{Starts};
 ghost use Rattle.steps.specs.Observed.{observedOf, Observed};
-ghost use Rattle.steps.specs.Progress.{Target, Leaves, Explores, Follows};
+ghost use Rattle.steps.specs.Progress.{jobsIn, stateIn, goingIn, Target, Leaves, Explores, Follows};
 use crate::observed::observe;
+use crate::shape::Shape;
 use crate::step::Step;
 use crate::successor::store_successor;
 use edges::Edge;
@@ -22,89 +20,75 @@ use jobs::deadline;
 use jobs::least_execution;
 use jobs::most_execution;
 use model::limits::MOST_JOBS;
+use states::starting::JobStart;
 
-// Follows an edge: job i starts at s at the earliest, and finishes from e to f.
+// A candidate of a state, and its edge.
+pub struct Candidate {
+    pub job: usize,
+    pub edge: Edge,
+}
+
+// Follows an edge: the job starts.
 pub fn follow(
     half: &mut [u32],
     seen: &mut [u32],
     heads: &mut [usize],
     n: usize,
-    cap: usize,
     rows: &[u32],
-    k: usize,
     cur: &[u32],
-    m: usize,
-    i: usize,
-    s: u32,
-    e: u32,
-    f: u32,
+    shape: Shape,
+    start: JobStart,
 ) -> Step
-    requires { ⌜ (i < k) × Explores (now rows) k m cap (now cur) (now half) n (now seen) (now heads)
-        × Follows (jobsOf (now rows) k) (stateOf m k (now cur)) i s e f ⌝ }
-    ensures { λ r. ⌜ Leaves (jobsOf (now (rows .entry)) k) m k cap
-        (addEdge (jobsOf (now (rows .entry)) k) cap (stateOf m k (now (cur .entry))) i (statesOf m k (now (half .entry)) n)
-        (observedOf k (now (seen .entry)))) r (now (half .exit)) (now (seen .exit)) (now (heads .exit)) ⌝ }
+    requires { ⌜ (start .job < shape .jobs) × Explores (now rows) shape (now cur) (now half) n (now seen) (now heads)
+        × Follows (jobsIn shape (now rows)) (stateIn shape (now cur)) start ⌝ }
+    ensures { λ r. ⌜ Leaves (jobsIn shape (now (rows .entry))) shape
+        (addEdge (jobsIn shape (now (rows .entry))) (shape .capacity) (stateIn shape (now (cur .entry))) (start .job)
+        (statesOf (shape .cores) (shape .jobs) (now (half .entry)) n) (observedOf (shape .jobs) (now (seen .entry))))
+        r (now (half .exit)) (now (seen .exit)) (now (heads .exit)) ⌝ }
 {
+    let k = shape.jobs;
+    let i = start.job;
+    let e = start.earliest;
+    let f = start.latest;
     observe(seen, k, i, e, f);
     if deadline(rows, k, i) < f {
         return Step::Late(i, e, f);
     }
-    store_successor(half, heads, n, cap, cur, m, k, i, s, e, f)
+    store_successor(half, heads, n, cur, shape, start)
 }
 
-// Adds the edge of job i, which starts from s to t.
-pub fn add_edge(
-    half: &mut [u32],
-    seen: &mut [u32],
-    heads: &mut [usize],
-    n: usize,
-    cap: usize,
-    rows: &[u32],
-    k: usize,
-    cur: &[u32],
-    m: usize,
-    i: usize,
-    s: u32,
-    t: u32,
-) -> Step
-    requires { ⌜ (i < k) × Explores (now rows) k m cap (now cur) (now half) n (now seen) (now heads)
-        × (edgeOf (jobsOf (now rows) k) (stateOf m k (now cur)) i ≡ Starts s t) ⌝ }
-    ensures { λ r. ⌜ Leaves (jobsOf (now (rows .entry)) k) m k cap
-        (λ c. tryJob (jobsOf (now (rows .entry)) k) cap (stateOf m k (now (cur .entry))) i
-        (going (statesOf m k (now (half .entry)) n) (observedOf k (now (seen .entry))) c)) r (now (half .exit)) (now (seen .exit)) (now (heads .exit)) ⌝ }
-{
-    let e = s + least_execution(rows, k, i);
-    let f = t + most_execution(rows, k, i);
-    follow(half, seen, heads, n, cap, rows, k, cur, m, i, s, e, f)
-}
-
-// Candidate i of one state: an edge where it is eligible.
+// Adds the edge of a candidate, where it is eligible.
 pub fn try_job(
     half: &mut [u32],
     seen: &mut [u32],
     heads: &mut [usize],
     n: usize,
-    cap: usize,
     rows: &[u32],
-    k: usize,
     cur: &[u32],
-    m: usize,
-    list: &[u32],
-    bound: u32,
-    i: usize,
+    shape: Shape,
+    tried: Candidate,
 ) -> Step
-    requires { ⌜ (i < k) × Explores (now rows) k m cap (now cur) (now half) n (now seen) (now heads)
-        × (now list ≡ candidates (jobsOf (now rows) k) (stateOf m k (now cur)) k)
-        × (candidate (jobsOf (now rows) k) (stateOf m k (now cur)) i ≡ true)
-        × (bound ≡ workConservingBound (jobsOf (now rows) k) (stateOf m k (now cur))) ⌝ }
-    ensures { λ r. ⌜ Leaves (jobsOf (now (rows .entry)) k) m k cap
-        (λ c. tryJob (jobsOf (now (rows .entry)) k) cap (stateOf m k (now (cur .entry))) i
-        (going (statesOf m k (now (half .entry)) n) (observedOf k (now (seen .entry))) c)) r (now (half .exit)) (now (seen .exit)) (now (heads .exit)) ⌝ }
+    requires { ⌜ (tried .job < shape .jobs) × Explores (now rows) shape (now cur) (now half) n (now seen) (now heads)
+        × (tried .edge ≡ edgeOf (jobsIn shape (now rows)) (stateIn shape (now cur)) (tried .job)) ⌝ }
+    ensures { λ r. ⌜ Leaves (jobsIn shape (now (rows .entry))) shape
+        (λ c. tryJob (jobsIn shape (now (rows .entry))) (shape .capacity) (stateIn shape (now (cur .entry))) (tried .job)
+        (goingIn shape (now (half .entry)) n (now (seen .entry)) c)) r (now (half .exit)) (now (seen .exit)) (now (heads .exit)) ⌝ }
 {
-    let Edge::Starts(s, t) = edge_of(rows, k, cur, m, list, bound, i) else {
+    let edge = tried.edge;
+    let Edge::Starts(s, t) = edge else {
         return Step::Going(n);
     };
-    add_edge(half, seen, heads, n, cap, rows, k, cur, m, i, s, t)
+    let i = tried.job;
+    let k = shape.jobs;
+    let e = s + least_execution(rows, k, i);
+    let f = t + most_execution(rows, k, i);
+    let start = JobStart {
+        job: i,
+        start: s,
+        earliest: e,
+        latest: f,
+    };
+    follow(half, seen, heads, n, rows, cur, shape, start)
 }
 
 // Every candidate of one state, by rising number. The other jobs have no edge.
@@ -113,88 +97,56 @@ pub fn try_jobs(
     seen: &mut [u32],
     heads: &mut [usize],
     n: usize,
-    cap: usize,
     rows: &[u32],
-    k: usize,
     cur: &[u32],
-    m: usize,
+    shape: Shape,
     list: &[u32],
-    bound: u32,
 ) -> Step
-    requires { ⌜ Explores (now rows) k m cap (now cur) (now half) n (now seen) (now heads)
-        × (now list ≡ candidates (jobsOf (now rows) k) (stateOf m k (now cur)) k)
-        × (bound ≡ workConservingBound (jobsOf (now rows) k) (stateOf m k (now cur))) ⌝ }
-    ensures { λ r. ⌜ Leaves (jobsOf (now (rows .entry)) k) m k cap
-        (λ c. tryJobs (jobsOf (now (rows .entry)) k) cap (stateOf m k (now (cur .entry))) k
-        (going (statesOf m k (now (half .entry)) n) (observedOf k (now (seen .entry))) c)) r (now (half .exit)) (now (seen .exit)) (now (heads .exit)) ⌝ }
+    requires { ⌜ Explores (now rows) shape (now cur) (now half) n (now seen) (now heads)
+        × (now list ≡ candidates (jobsIn shape (now rows)) (stateIn shape (now cur)) (shape .jobs)) ⌝ }
+    ensures { λ r. ⌜ Leaves (jobsIn shape (now (rows .entry))) shape
+        (λ c. tryJobs (jobsIn shape (now (rows .entry))) (shape .capacity) (stateIn shape (now (cur .entry))) (shape .jobs)
+        (goingIn shape (now (half .entry)) n (now (seen .entry)) c)) r (now (half .exit)) (now (seen .exit)) (now (heads .exit)) ⌝ }
 {
+    let k = shape.jobs;
+    let m = shape.cores;
+    let bound = work_conserving_bound(rows, k, cur, m, list);
     let mut stored = n;
     let mut t = 0;
     while t < list.len() {
         let i = list[t] as usize;
-        match try_job(
-            half,
-            seen,
-            heads,
-            stored,
-            cap,
-            rows,
-            k,
-            cur,
-            m,
-            list,
-            bound,
-            i,
-        ) {
-            Step::Going(x) => {
-                stored = x;
-            }
-            Step::Full(l) => {
-                return Step::Full(l);
-            }
-            Step::Late(j, e, f) => {
-                return Step::Late(j, e, f);
-            }
-        }
+        let edge = edge_of(rows, k, cur, m, list, bound, i);
+        let tried = Candidate { job: i, edge };
+        let step = try_job(half, seen, heads, stored, rows, cur, shape, tried);
+        let Step::Going(x) = step else {
+            return step;
+        };
+        stored = x;
         t += 1;
     }
     Step::Going(stored)
 }
 
-// Every edge of one state, into the half, which holds n states and has room for cap. `sets` are the predecessors of each job.
+// Every edge of one state, into the half, which holds n states. `sets` are the predecessors of each job.
 pub fn try_state(
     half: &mut [u32],
     seen: &mut [u32],
     heads: &mut [usize],
     n: usize,
-    cap: usize,
     rows: &[u32],
     sets: &[u64],
-    k: usize,
     cur: &[u32],
-    m: usize,
+    shape: Shape,
 ) -> Step
-    requires { ⌜ Setting (now rows) k m × (k ≤ length (now sets)) × PredecessorSets (jobsOf (now rows) k) k (now sets) ⌝ }
-    requires { ⌜ (stateWords m k ≤ length (now cur)) × Sound (jobsOf (now rows) k) m k (now cur)
-        × Target (jobsOf (now rows) k) m k cap (now half) (now heads) n × Observed k (now seen) ⌝ }
-    ensures { λ r. ⌜ Leaves (jobsOf (now (rows .entry)) k) m k cap
-        (λ c. tryJobs (jobsOf (now (rows .entry)) k) cap (stateOf m k (now (cur .entry))) k
-        (going (statesOf m k (now (half .entry)) n) (observedOf k (now (seen .entry))) c)) r (now (half .exit)) (now (seen .exit)) (now (heads .exit)) ⌝ }
+    requires { ⌜ Setting (now rows) (shape .jobs) (shape .cores) × (shape .jobs ≤ length (now sets))
+        × PredecessorSets (jobsIn shape (now rows)) (shape .jobs) (now sets) ⌝ }
+    requires { ⌜ (stateWords (shape .cores) (shape .jobs) ≤ length (now cur)) × Sound (jobsIn shape (now rows)) (shape .cores) (shape .jobs) (now cur)
+        × Target (jobsIn shape (now rows)) (shape .cores) (shape .jobs) (shape .capacity) (now half) (now heads) n × Observed (shape .jobs) (now seen) ⌝ }
+    ensures { λ r. ⌜ Leaves (jobsIn shape (now (rows .entry))) shape
+        (λ c. tryJobs (jobsIn shape (now (rows .entry))) (shape .capacity) (stateIn shape (now (cur .entry))) (shape .jobs)
+        (goingIn shape (now (half .entry)) n (now (seen .entry)) c)) r (now (half .exit)) (now (seen .exit)) (now (heads .exit)) ⌝ }
 {
     let mut list = [0u32; MOST_JOBS];
-    let listed = list_candidates(sets, k, cur, m, &mut list);
-    let bound = work_conserving_bound(rows, k, cur, m, &list[..listed]);
-    try_jobs(
-        half,
-        seen,
-        heads,
-        n,
-        cap,
-        rows,
-        k,
-        cur,
-        m,
-        &list[..listed],
-        bound,
-    )
+    let listed = list_candidates(sets, shape.jobs, cur, shape.cores, &mut list);
+    try_jobs(half, seen, heads, n, rows, cur, shape, &list[..listed])
 }

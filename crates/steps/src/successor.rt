@@ -11,63 +11,56 @@ ghost use Rattle.model.specs.Exploration.{stateWords, limited, stored};
 ghost use Rattle.model.specs.internal.Sorted.{Ordered};
 ghost use Rattle.model.specs.internal.Bounds.{Bounded};
 ghost use Rattle.states.specs.Slots.{setOf, stateOf, statesOf};
-ghost use Rattle.states.specs.Writing.{withStart};
+ghost use Rattle.states.specs.Writing.{afterStart};
 ghost use Rattle.store.specs.Half.{SetsFit, Indexed};
-ghost use Rattle.steps.specs.Progress.{progressOf, Half, HalfAt};
+ghost use Rattle.steps.specs.Progress.{stateIn, progressOf, Half, HalfAt};
+use crate::shape::Shape;
 use crate::step::Step;
 use states::copying::load_state;
 use states::reading::level_of;
 use states::sizes::MOST_STATE_WORDS;
+use states::starting::JobStart;
 use states::starting::start_job;
 use store::Stored;
 use store::store_state;
 
-// Writes the state that follows `cur` once job i starts at s at the earliest, to finish from e to f.
-pub fn write_successor(
-    new: &mut [u32],
-    cur: &[u32],
-    m: usize,
-    k: usize,
-    i: usize,
-    s: u32,
-    e: u32,
-    f: u32,
-)
-    requires { ⌜ (i < k) × (k ≤ mostJobs) × (1 ≤ m) × (m ≤ mostCores) × (stateWords m k ≤ length (now cur)) × (stateWords m k ≤ length (now new))
-        × (setOf (now cur) < 2 ^ k) × (started (stateOf m k (now cur)) i ≡ false) × Ordered (stateOf m k (now cur)) ⌝ }
-    ensures { λ _. ⌜ (stateOf m k (now (new .exit)) ≡ withStart (stateOf m k (now (cur .entry))) i s e f)
-        × (setOf (now (new .exit)) ≡ setOf (now (cur .entry)) + 2 ^ i) ⌝ }
+// Writes the state that follows `cur` once the job starts.
+pub fn write_successor(new: &mut [u32], cur: &[u32], m: usize, k: usize, start: JobStart)
+    requires { ⌜ (start .job < k) × (k ≤ mostJobs) × (1 ≤ m) × (m ≤ mostCores) × (stateWords m k ≤ length (now cur)) × (stateWords m k ≤ length (now new))
+        × (setOf (now cur) < 2 ^ k) × (started (stateOf m k (now cur)) (start .job) ≡ false) × Ordered (stateOf m k (now cur)) ⌝ }
+    ensures { λ _. ⌜ (stateOf m k (now (new .exit)) ≡ afterStart (stateOf m k (now (cur .entry))) start)
+        × (setOf (now (new .exit)) ≡ setOf (now (cur .entry)) + 2 ^ start .job) ⌝ }
 {
     load_state(new, cur, m, k);
-    start_job(new, m, k, i, s, e, f);
+    start_job(new, m, k, start);
 }
 
-// Stores the state that follows `cur` in the half, which holds n states, has room for cap, and has an index.
+// Stores the state that follows `cur` in the half, which holds n states and has an index.
 pub fn store_successor(
     half: &mut [u32],
     heads: &mut [usize],
     n: usize,
-    cap: usize,
     cur: &[u32],
-    m: usize,
-    k: usize,
-    i: usize,
-    s: u32,
-    e: u32,
-    f: u32,
+    shape: Shape,
+    start: JobStart,
 ) -> Step
-    requires { ⌜ (i < k) × (k ≤ mostJobs) × (1 ≤ m) × (m ≤ mostCores) × (stateWords m k ≤ length (now cur)) × (setOf (now cur) < 2 ^ k)
-        × (started (stateOf m k (now cur)) i ≡ false) × Ordered (stateOf m k (now cur)) ⌝ }
-    requires { ⌜ (cap * stateWords m k ≤ length (now half)) × (n ≤ cap) × SetsFit m k (now half) n × Indexed m k (now half) n (now heads) ⌝ }
-    ensures { λ r. ⌜ ((seen : List Range) (c : ℕ) → progressOf m k seen c r (now (half .exit))
-        ≡ limited cap (withStart (stateOf m k (now (cur .entry))) i s e f)
-        (stored (withStart (stateOf m k (now (cur .entry))) i s e f) (statesOf m k (now (half .entry)) n)) seen c) ⌝ }
-    ensures { λ r. ⌜ ((js : List Job) → Half js m k cap (now (half .entry)) n
-        → Bounded js latestTime (withStart (stateOf m k (now (cur .entry))) i s e f) → HalfAt js m k cap r (now (half .exit)) (now (heads .exit))) ⌝ }
+    requires { ⌜ (start .job < shape .jobs) × (shape .jobs ≤ mostJobs) × (1 ≤ shape .cores) × (shape .cores ≤ mostCores)
+        × (stateWords (shape .cores) (shape .jobs) ≤ length (now cur)) × (setOf (now cur) < 2 ^ shape .jobs)
+        × (started (stateIn shape (now cur)) (start .job) ≡ false) × Ordered (stateIn shape (now cur)) ⌝ }
+    requires { ⌜ (shape .capacity * stateWords (shape .cores) (shape .jobs) ≤ length (now half)) × (n ≤ shape .capacity)
+        × SetsFit (shape .cores) (shape .jobs) (now half) n × Indexed (shape .cores) (shape .jobs) (now half) n (now heads) ⌝ }
+    ensures { λ r. ⌜ ((seen : List Range) (c : ℕ) → progressOf (shape .cores) (shape .jobs) seen c r (now (half .exit))
+        ≡ limited (shape .capacity) (afterStart (stateIn shape (now (cur .entry))) start)
+        (stored (afterStart (stateIn shape (now (cur .entry))) start) (statesOf (shape .cores) (shape .jobs) (now (half .entry)) n)) seen c) ⌝ }
+    ensures { λ r. ⌜ ((js : List Job) → Half js (shape .cores) (shape .jobs) (shape .capacity) (now (half .entry)) n
+        → Bounded js latestTime (afterStart (stateIn shape (now (cur .entry))) start)
+        → HalfAt js (shape .cores) (shape .jobs) (shape .capacity) r (now (half .exit)) (now (heads .exit))) ⌝ }
 {
+    let m = shape.cores;
+    let k = shape.jobs;
     let mut new = [0u32; MOST_STATE_WORDS];
-    write_successor(&mut new, cur, m, k, i, s, e, f);
-    match store_state(half, heads, n, cap, &new, m, k) {
+    write_successor(&mut new, cur, m, k, start);
+    match store_state(half, heads, n, shape.capacity, &new, m, k) {
         Stored::At(stored) => Step::Going(stored),
         Stored::Full => Step::Full(level_of(&new, m, k)),
     }

@@ -6,22 +6,27 @@ use lib.ListN.{length}
 use denote.Ref.{now}
 use borrow.Author.Needs.{needs}
 use Rattle.words.proofs.Parts.{part-length}
-use Rattle.analysis.proofs.Building.{Building, building-starts, building-ends, read-inside, target-half, loaded-sound, table-long, building-goes-on, building-full, building-late}
+use Rattle.analysis.proofs.Building.{Building, building-starts, building-ends, read-inside, target-half, loaded-sound, table-long, building-goes-on, building-stops}
 use Rattle.analysis.proofs.levels.build_level.Statement.{statement}
 use Rattle.analysis.proofs.levels.build_level.Tie as tie
 
 abbrev Inv-loop : tie.InvT-loop
-Inv-loop table₀ seen₀ heads₀ from to n cap rows sets k m w end built₀ j₀ table seen heads built j = Building rows k m cap from to n table₀ seen₀ table seen heads built j
+Inv-loop table₀ seen₀ heads₀ rows sets shape m k capacity from n to w end built₀ j₀ table seen heads built j =
+    Building rows (shape .jobs) (shape .cores) (shape .capacity) from to n table₀ seen₀ table seen heads built j
 
 abbrev μ-loop : tie.MeasureT-loop
-μ-loop table₀ seen₀ heads₀ from to n cap rows sets k m w end built₀ j₀ table seen heads built j = n - j
+μ-loop table₀ seen₀ heads₀ rows sets shape m k capacity from n to w end built₀ j₀ table seen heads built j = n - j
 
 state-words-requires : tie.Need-state-words-requires Inv-loop μ-loop
 state-words-requires c κs = search needs
 
+-- the words on entry
+abbrev entry : tie.After-state-words Inv-loop μ-loop → tie.Start Inv-loop μ-loop
+entry c = c .before .before .before .before .before .before
+
 -- the half that is written lies in the table
-target : (c : tie.After-state-words Inv-loop μ-loop) → c .before .before .before .before .before .before .args .to + c .before .before .before .before .before .before .args .cap * c .state-words .result ≤ length (now (c .before .before .before .before .before .before .args .table))
-target c = omega (arith, ap (λ (z : ℕ). c .before .before .before .before .before .before .args .cap * z) (c .state-words .ensures), c .before .before .before .before .before .before .pre .1 .0 .target)
+target : (c : tie.After-state-words Inv-loop μ-loop) → entry c .args .level .to + entry c .args .shape .capacity * c .state-words .result ≤ length (now (entry c .args .table))
+target c = omega (arith, ap (λ (z : ℕ). entry c .args .shape .capacity * z) (c .state-words .ensures), entry c .pre .1 .0 .target)
 
 mul-end : tie.Need-mul-end Inv-loop μ-loop
 mul-end c = omega (arith, target c)
@@ -35,11 +40,8 @@ loop-holds c =
     building-starts (a .pre .1 .0) (a .pre .1 .1) (a .pre .1 .2) (a .pre .1 .3)
 
 -- the state that is read lies in the table
-read : (c : tie.In-loop Inv-loop μ-loop) → c .before .before .before .before .before .before .before .before .args .from + c .before .loop .j * c .before .before .state-words .result + c .before .before .state-words .result ≤ length (c .before .loop .table)
-read c =
-    let i = c .before .loop in
-    let s = c .before .before .state-words in
-    read-inside (i .inv) (s .ensures) (c .loop-test .taken)
+read : (c : tie.In-loop Inv-loop μ-loop) → entry (c .before .before) .args .level .from + c .before .loop .j * c .before .before .state-words .result + c .before .before .state-words .result ≤ length (c .before .loop .table)
+read c = read-inside (c .before .loop .inv) (c .before .before .state-words .ensures) (c .loop-test .taken)
 
 mul-at : tie.Need-mul-at Inv-loop μ-loop
 mul-at c = omega (arith, read c, c .before .loop .inv .long)
@@ -69,7 +71,7 @@ load-state-requires : tie.Need-load-state-requires Inv-loop μ-loop
 load-state-requires c κs =
     let a = c .before .before .before .before .before .before .before .before .before .before .before in
     let s = c .before .before .before .before .before .state-words in
-    let at = a .args .from + c .before .before .before .before .loop .j * s .result in
+    let at = a .args .level .from + c .before .before .before .before .loop .j * s .result in
     let l = part-length at (at + s .result - at) (c .before .before .before .before .loop .table) (omega (arith, read (c .before .before .before))) in
     (a .pre .0 .0 .few-cores, a .pre .0 .0 .jobs, omega (arith, a .pre .0 .0 .few-cores, a .pre .0 .0 .jobs), omega (arith, l, s .ensures))
 
@@ -104,89 +106,71 @@ try-state-requires c κs =
       ),
     )
 
+enum-known-step : tie.Need-enum-known-step Inv-loop μ-loop
+enum-known-step c = search needs
+
+-- ---- what a state leaves
+
+-- before it: the words on entry, at the loop's test, and the state in hand
+abbrev first : tie.After-try-state Inv-loop μ-loop → tie.Start Inv-loop μ-loop
+first c = c .before .before .before .before .before .before .before .before .before .before .before .before .before .before .before .before .before .before
+
+abbrev turn : tie.After-try-state Inv-loop μ-loop → tie.In-loop Inv-loop μ-loop
+turn c = c .before .before .before .before .before .before .before .before .before .before
+
+abbrev loaded : tie.After-try-state Inv-loop μ-loop → tie.After-load-state Inv-loop μ-loop
+loaded c = c .before .before .before .before .before .before
+
 -- no slice changes its length
-kept : (c : tie.After-try-state Inv-loop μ-loop) → (length (c .try-state .last .1 .0) ≡ length (now (c .before .before .before .before .before .before .before .before .before .before .before .before .before .before .before .before .before .before .args .seen))) × (length (c .try-state .last .1 .1 .0) ≡ length (now (c .before .before .before .before .before .before .before .before .before .before .before .before .before .before .before .before .before .before .args .heads)))
+kept : (c : tie.After-try-state Inv-loop μ-loop) → (length (c .try-state .last .1 .0) ≡ length (now (first c .args .seen))) × (length (c .try-state .last .1 .1 .0) ≡ length (now (first c .args .heads)))
 kept c =
-    let p = c .before .before .before .before .before .before .before .before .before .before .before .before .before .before .before .before .before .before .pre in
-    let i = c .before .before .before .before .before .before .before .before .before .before .before .loop .inv in
+    let p = first c .pre in
+    let i = turn c .before .loop .inv in
     let k = c .try-state .kept in (k .1 .0 ∙ i .observed .long ∙ sym (p .1 .2 .long), k .1 .1 .0 ∙ i .target .1 .long ∙ sym (p .1 .3))
 
-enum-known-x : tie.Need-enum-known-x Inv-loop μ-loop
-enum-known-x c = search needs
-
-enum-known-l : tie.Need-enum-known-l Inv-loop μ-loop
-enum-known-l c = search needs
-
 same-length : tie.Need-same-length Inv-loop μ-loop
-same-length c = table-long (c .before .before .before .before .before .before .before .before .before .before .before .before .before .before .before .before .before .before .before .before .loop .inv) (c .before .before .before .before .before .before .before .before .before .before .before .before .before .before .before .before .before .before .before .before .before .state-words .ensures) (c .before .before .before .before .before .before .before .before .before .before .before .before .before .before .before .before .before .before .before .loop-test .taken) (c .before .before .before .before .before .before .before .before .before .before .before .before .before .before .before .load-state .last .0) (c .before .before .before .before .before .before .before .before .before .before .before .before .before .before .before .load-state .ensures .0) (c .before .before .before .before .before .before .before .before .before .try-state .kept .0) (c .before .before .before .before .before .before .before .before .before .try-state .ensures)
+same-length c =
+    let x = c .before .before .before .before .before .before .before in
+    let l = loaded x .load-state in
+    table-long (turn x .before .loop .inv) (turn x .before .before .state-words .ensures) (turn x .loop-test .taken) (l .last .0) (l .ensures .0) (x .try-state .kept .0) (x .try-state .ensures)
 
 same-length-2 : tie.Need-same-length-2 Inv-loop μ-loop
-same-length-2 c = kept (c .before .before .before .before .before .before .before .before .before) .0
+same-length-2 c = kept (c .before .before .before .before .before .before .before) .0
 
 same-length-3 : tie.Need-same-length-3 Inv-loop μ-loop
-same-length-3 c = kept (c .before .before .before .before .before .before .before .before .before) .1
+same-length-3 c = kept (c .before .before .before .before .before .before .before) .1
 
 returns : tie.Need-returns Inv-loop μ-loop
 returns c =
-    let i = c .before .before .before .before .before .before .before .before .before .before .before .before .before .before .before .before .before .before .before .before .loop in
-    let s = c .before .before .before .before .before .before .before .before .before .before .before .before .before .before .before .before .before .before .before .before .before .state-words in
-    let t = c .before .before .before .before .before .before .before .before .before .before .before .before .before .before .before .before .before .before .before .loop-test .taken in
-    let l = c .before .before .before .before .before .before .before .before .before .before .before .before .before .before .before .load-state in
-    let y = c .before .before .before .before .before .before .before .before .before .try-state in
-    let v = c .before .l .given .1 in
-    building-full (i .inv) (s .ensures) t (l .last .0) (l .ensures .0) (y .kept .0) (y .ensures) v
-
-enum-known-i : tie.Need-enum-known-i Inv-loop μ-loop
-enum-known-i c = search needs
-
-same-length-4 : tie.Need-same-length-4 Inv-loop μ-loop
-same-length-4 c = table-long (c .before .before .before .before .before .before .before .before .before .before .before .before .before .before .before .before .before .before .before .before .loop .inv) (c .before .before .before .before .before .before .before .before .before .before .before .before .before .before .before .before .before .before .before .before .before .state-words .ensures) (c .before .before .before .before .before .before .before .before .before .before .before .before .before .before .before .before .before .before .before .loop-test .taken) (c .before .before .before .before .before .before .before .before .before .before .before .before .before .before .before .load-state .last .0) (c .before .before .before .before .before .before .before .before .before .before .before .before .before .before .before .load-state .ensures .0) (c .before .before .before .before .before .before .before .before .before .try-state .kept .0) (c .before .before .before .before .before .before .before .before .before .try-state .ensures)
-
-same-length-5 : tie.Need-same-length-5 Inv-loop μ-loop
-same-length-5 c = kept (c .before .before .before .before .before .before .before .before .before) .0
-
-same-length-6 : tie.Need-same-length-6 Inv-loop μ-loop
-same-length-6 c = kept (c .before .before .before .before .before .before .before .before .before) .1
-
-returns-2 : tie.Need-returns-2 Inv-loop μ-loop
-returns-2 c =
-    let i = c .before .before .before .before .before .before .before .before .before .before .before .before .before .before .before .before .before .before .before .before .loop in
-    let s = c .before .before .before .before .before .before .before .before .before .before .before .before .before .before .before .before .before .before .before .before .before .state-words in
-    let t = c .before .before .before .before .before .before .before .before .before .before .before .before .before .before .before .before .before .before .before .loop-test .taken in
-    let l = c .before .before .before .before .before .before .before .before .before .before .before .before .before .before .before .load-state in
-    let y = c .before .before .before .before .before .before .before .before .before .try-state in
-    let v = c .before .i .given .1 in
-    building-late (i .inv) (s .ensures) t (l .last .0) (l .ensures .0) (y .kept .0) (y .ensures) v
+    let x = c .before .before .before .before .before .before .before in
+    let l = loaded x .load-state in
+    building-stops (turn x .before .loop .inv) (turn x .before .before .state-words .ensures) (turn x .loop-test .taken) (l .last .0) (l .ensures .0) (x .try-state .kept .0) (x .try-state .ensures) (c .match .keys2)
 
 add-j : tie.Need-add-j Inv-loop μ-loop
-add-j c = omega (arith, c .before .before .before .before .before .before .before .before .before .before .before .before .before .before .before .before .before .before .before .loop-test .taken, c .before .before .before .before .before .before .before .before .before .before .before .before .before .before .before .before .before .before .before .before .before .before .before .before .before .before .before .good)
+add-j c = omega (arith, turn (c .before .before .before .before .before .before .before .before .before) .loop-test .taken, first (c .before .before .before .before .before .before .before .before .before) .good)
 
 loop-less : tie.Need-loop-less Inv-loop μ-loop
-loop-less c = omega (arith, c .before .before .before .before .before .before .before .before .before .before .before .before .before .before .before .before .before .before .before .loop-test .taken)
+loop-less c = omega (arith, turn (c .before .before .before .before .before .before .before .before .before) .loop-test .taken)
 
 loop-again : tie.Need-loop-again Inv-loop μ-loop
 loop-again c =
-    let i = c .before .before .before .before .before .before .before .before .before .before .before .before .before .before .before .before .before .before .before .before .loop in
-    let s = c .before .before .before .before .before .before .before .before .before .before .before .before .before .before .before .before .before .before .before .before .before .state-words in
-    let t = c .before .before .before .before .before .before .before .before .before .before .before .before .before .before .before .before .before .before .before .loop-test .taken in
-    let l = c .before .before .before .before .before .before .before .before .before .before .before .before .before .before .before .load-state in
-    let y = c .before .before .before .before .before .before .before .before .before .try-state in
-    let v = c .before .x .given .1 in
-    building-goes-on (i .inv) (s .ensures) t (l .last .0) (l .ensures .0) (y .kept .0) (y .ensures) v
+    let x = c .before .before .before .before .before .before .before .before .before in
+    let l = loaded x .load-state in
+    building-goes-on (turn x .before .loop .inv) (turn x .before .before .state-words .ensures) (turn x .loop-test .taken) (l .last .0) (l .ensures .0) (x .try-state .kept .0) (x .try-state .ensures) (c .before .step .given .1)
 
-same-length-7 : tie.Need-same-length-7 Inv-loop μ-loop
-same-length-7 c = c .before .loop .inv .long
+-- ---- after the last state
 
-same-length-8 : tie.Need-same-length-8 Inv-loop μ-loop
-same-length-8 c = c .before .loop .inv .observed .long ∙ sym (c .before .before .before .before .before .before .before .before .pre .1 .2 .long)
+same-length-4 : tie.Need-same-length-4 Inv-loop μ-loop
+same-length-4 c = c .before .loop .inv .long
 
-same-length-9 : tie.Need-same-length-9 Inv-loop μ-loop
-same-length-9 c = c .before .loop .inv .target .1 .long ∙ sym (c .before .before .before .before .before .before .before .before .pre .1 .3)
+same-length-5 : tie.Need-same-length-5 Inv-loop μ-loop
+same-length-5 c = c .before .loop .inv .observed .long ∙ sym (c .before .before .before .before .before .before .before .before .pre .1 .2 .long)
 
-returns-3 : tie.Need-returns-3 Inv-loop μ-loop
-returns-3 c =
-    let i = c .before .loop in
-    building-ends (i .inv) (c .loop-test .left)
+same-length-6 : tie.Need-same-length-6 Inv-loop μ-loop
+same-length-6 c = c .before .loop .inv .target .1 .long ∙ sym (c .before .before .before .before .before .before .before .before .pre .1 .3)
+
+returns-2 : tie.Need-returns-2 Inv-loop μ-loop
+returns-2 c = building-ends (c .before .loop .inv) (c .loop-test .left)
 
 pub build-level-spec : {M : Type 1} → statement M
 build-level-spec =
@@ -213,21 +197,15 @@ build-level-spec =
     part-try-state-end
     slice-aggregate-try-state
     try-state-requires
-    enum-known-x
-    enum-known-l
+    enum-known-step
     same-length
     same-length-2
     same-length-3
     returns
-    enum-known-i
-    same-length-4
-    same-length-5
-    same-length-6
-    returns-2
     add-j
     loop-less
     loop-again
-    same-length-7
-    same-length-8
-    same-length-9
-    returns-3)
+    same-length-4
+    same-length-5
+    same-length-6
+    returns-2)

@@ -3,6 +3,7 @@ use Prim.Native.Nat.{ℕ, _*_, _-_}
 use mathlib.Core.Path.{_≡_, sym, ap, _∙_}
 use native.Mathlib.Omega.{arith}
 use lib.ListN.{length, length-replicate}
+use denote.Ref.{now}
 use borrow.Author.Needs.{needs}
 use Rattle.store.specs.Half.{buckets}
 use Rattle.analysis.proofs.Climbing.{Climbing, climbing-starts, climbing-ends, halves-apart, count-fits, climbing-goes-on, climbing-full, climbing-late}
@@ -10,10 +11,11 @@ use Rattle.analysis.proofs.levels.climb_levels.Statement.{statement}
 use Rattle.analysis.proofs.levels.climb_levels.Tie as tie
 
 abbrev Inv-loop : tie.InvT-loop
-Inv-loop table₀ seen₀ cap rows k m w sets from₀ to₀ n₀ count₀ level₀ heads₀ table seen from to n count level heads = Climbing rows k m cap table₀ table seen from to n count level × (length heads ≡ buckets)
+Inv-loop table₀ seen₀ rows shape m k capacity w sets from₀ to₀ n₀ count₀ depth₀ heads₀ table seen from to n count depth heads =
+    Climbing rows (shape .jobs) (shape .cores) (shape .capacity) table₀ table seen from to n count depth × (length heads ≡ buckets)
 
 abbrev μ-loop : tie.MeasureT-loop
-μ-loop table₀ seen₀ cap rows k m w sets from₀ to₀ n₀ count₀ level₀ heads₀ table seen from to n count level heads = k - level
+μ-loop table₀ seen₀ rows shape m k capacity w sets from₀ to₀ n₀ count₀ depth₀ heads₀ table seen from to n count depth heads = k - depth
 
 state-words-requires : tie.Need-state-words-requires Inv-loop μ-loop
 state-words-requires c κs = search needs
@@ -26,7 +28,7 @@ write-predecessor-sets-requires c κs =
     let p = c .before .before .before .before .before .pre .0 .0 in (p .rows-of, p .jobs, p .jobs)
 
 mul-to : tie.Need-mul-to Inv-loop μ-loop
-mul-to c = omega (arith, ap (λ (z : ℕ). c .before .before .before .before .before .before .before .args .cap * z) (c .before .before .before .state-words .ensures), c .before .before .before .before .before .before .before .pre .0 .1)
+mul-to c = omega (arith, ap (λ (z : ℕ). c .before .before .before .before .before .before .before .args .shape .capacity * z) (c .before .before .before .state-words .ensures), c .before .before .before .before .before .before .before .pre .0 .1)
 
 loop-holds : tie.Need-loop-holds Inv-loop μ-loop
 loop-holds c =
@@ -46,65 +48,78 @@ build-level-requires c κs =
     let p = c .before .before .before .before .before .before .before .write-predecessor-sets in
     ((a .pre .0 .0, omega (arith, p .kept .1 .1 .0, a .pre .0 .0 .jobs), p .ensures), (halves-apart (i .inv .0), i .inv .0 .half, i .inv .0 .observed, i .inv .1))
 
+-- ---- what a level leaves
+
+-- before it: the words on entry, and at the loop's test
+abbrev first : tie.After-build-level Inv-loop μ-loop → tie.Start Inv-loop μ-loop
+first c = c .before .before .before .before .before .before .before .before .before .before .before .before .before .before
+
+abbrev turn : tie.After-build-level Inv-loop μ-loop → tie.In-loop Inv-loop μ-loop
+turn c = c .before .before .before .before .before
+
+-- no slice changes its length
+kept : (c : tie.After-build-level Inv-loop μ-loop) → (length (c .build-level .last .0) ≡ length (now (first c .args .table))) × (length (c .build-level .last .1 .0) ≡ length (now (first c .args .seen)))
+kept c =
+    let i = turn c .before .loop .inv .0 in
+    let k = c .build-level .kept in (k .0 ∙ i .long, k .1 .0 ∙ i .observed .long ∙ sym (first c .pre .0 .3 .long))
+
 enum-known-x : tie.Need-enum-known-x Inv-loop μ-loop
 enum-known-x c = search needs
 
 add-count : tie.Need-add-count Inv-loop μ-loop
 add-count c =
-    let a = c .before .before .before .before .before .before .before .before .before .before .before .before .before .before .before .before .before .before .before .before .before .before in
-    let i = c .before .before .before .before .before .before .before .before .before .before .before .before .before .before .loop in
-    let y = c .before .before .before .before .before .before .before .before .build-level in
-    let v = c .before .x .given .1 in
+    let x = c .before .before .before .before .before .before .before .before in
+    let y = x .build-level in
     omega (
       arith,
-      count-fits (i .inv .0) (c .before .before .before .before .before .before .before .before .before .before .before .before .before .loop-test .taken) (y .kept .0) (y .ensures .0) (y .ensures .1) v,
-      a .good,
+      count-fits (turn x .before .loop .inv .0) (turn x .loop-test .taken) (y .kept .0) (y .ensures .0) (y .ensures .1) (c .before .x .given .1),
+      first x .good,
     )
 
 enum-known-l : tie.Need-enum-known-l Inv-loop μ-loop
 enum-known-l c = search needs
 
 same-length : tie.Need-same-length Inv-loop μ-loop
-same-length c = c .before .before .before .before .before .before .before .before .build-level .kept .0 ∙ c .before .before .before .before .before .before .before .before .before .before .before .before .before .before .loop .inv .0 .long
+same-length c = kept (c .before .before .before .before .before .before .before .before) .0
 
 same-length-2 : tie.Need-same-length-2 Inv-loop μ-loop
-same-length-2 c = c .before .before .before .before .before .before .before .before .build-level .kept .1 .0 ∙ c .before .before .before .before .before .before .before .before .before .before .before .before .before .before .loop .inv .0 .observed .long ∙ sym (c .before .before .before .before .before .before .before .before .before .before .before .before .before .before .before .before .before .before .before .before .before .before .pre .0 .3 .long)
+same-length-2 c = kept (c .before .before .before .before .before .before .before .before) .1
 
 returns : tie.Need-returns Inv-loop μ-loop
 returns c =
-    let i = c .before .before .before .before .before .before .before .before .before .before .before .before .before .before .loop in
-    let y = c .before .before .before .before .before .before .before .before .build-level in
-    let v = c .before .l .given .1 in
-    climbing-full (i .inv .0) (c .before .before .before .before .before .before .before .before .before .before .before .before .before .loop-test .taken) (y .kept .0) (y .ensures .0) (y .ensures .1) v
+    let x = c .before .before .before .before .before .before .before .before in
+    let y = x .build-level in
+    climbing-full (turn x .before .loop .inv .0) (turn x .loop-test .taken) (y .kept .0) (y .ensures .0) (y .ensures .1) (c .before .l .given .1)
 
 enum-known-i : tie.Need-enum-known-i Inv-loop μ-loop
 enum-known-i c = search needs
 
 same-length-3 : tie.Need-same-length-3 Inv-loop μ-loop
-same-length-3 c = c .before .before .before .before .before .before .before .before .build-level .kept .0 ∙ c .before .before .before .before .before .before .before .before .before .before .before .before .before .before .loop .inv .0 .long
+same-length-3 c = kept (c .before .before .before .before .before .before .before .before) .0
 
 same-length-4 : tie.Need-same-length-4 Inv-loop μ-loop
-same-length-4 c = c .before .before .before .before .before .before .before .before .build-level .kept .1 .0 ∙ c .before .before .before .before .before .before .before .before .before .before .before .before .before .before .loop .inv .0 .observed .long ∙ sym (c .before .before .before .before .before .before .before .before .before .before .before .before .before .before .before .before .before .before .before .before .before .before .pre .0 .3 .long)
+same-length-4 c = kept (c .before .before .before .before .before .before .before .before) .1
 
 returns-2 : tie.Need-returns-2 Inv-loop μ-loop
 returns-2 c =
-    let i = c .before .before .before .before .before .before .before .before .before .before .before .before .before .before .loop in
-    let y = c .before .before .before .before .before .before .before .before .build-level in
-    let v = c .before .i .given .1 in
-    climbing-late (i .inv .0) (c .before .before .before .before .before .before .before .before .before .before .before .before .before .loop-test .taken) (y .kept .0) (y .ensures .0) (y .ensures .1) v
+    let x = c .before .before .before .before .before .before .before .before in
+    let y = x .build-level in
+    climbing-late (turn x .before .loop .inv .0) (turn x .loop-test .taken) (y .kept .0) (y .ensures .0) (y .ensures .1) (c .before .i .given .1)
 
-add-level : tie.Need-add-level Inv-loop μ-loop
-add-level c = omega (arith, c .before .before .before .before .before .before .before .before .before .before .before .before .before .loop-test .taken, c .before .before .before .before .before .before .before .before .before .before .before .before .before .before .before .before .before .before .before .before .before .before .pre .0 .0 .jobs)
+add-depth : tie.Need-add-depth Inv-loop μ-loop
+add-depth c = omega (arith, turn (c .before .before .before .before .before .before .before .before) .loop-test .taken, first (c .before .before .before .before .before .before .before .before) .pre .0 .0 .jobs)
 
 loop-less : tie.Need-loop-less Inv-loop μ-loop
-loop-less c = omega (arith, c .before .before .before .before .before .before .before .before .before .before .before .before .before .loop-test .taken)
+loop-less c = omega (arith, turn (c .before .before .before .before .before .before .before .before) .loop-test .taken)
 
 loop-again : tie.Need-loop-again Inv-loop μ-loop
 loop-again c =
-    let i = c .before .before .before .before .before .before .before .before .before .before .before .before .before .before .loop in
-    let y = c .before .before .before .before .before .before .before .before .build-level in
-    let v = c .before .x .given .1 in
-    (climbing-goes-on (i .inv .0) (c .before .before .before .before .before .before .before .before .before .before .before .before .before .loop-test .taken) (y .kept .0) (y .ensures .0) (y .ensures .1) v, y .kept .1 .1 .0 ∙ i .inv .1)
+    let x = c .before .before .before .before .before .before .before .before in
+    let y = x .build-level in
+    let i = turn x .before .loop .inv in
+    (climbing-goes-on (i .0) (turn x .loop-test .taken) (y .kept .0) (y .ensures .0) (y .ensures .1) (c .before .x .given .1), y .kept .1 .1 .0 ∙ i .1)
+
+-- ---- after the last level
 
 same-length-5 : tie.Need-same-length-5 Inv-loop μ-loop
 same-length-5 c = c .before .loop .inv .0 .long
@@ -141,7 +156,7 @@ climb-levels-spec =
     same-length-3
     same-length-4
     returns-2
-    add-level
+    add-depth
     loop-less
     loop-again
     same-length-5

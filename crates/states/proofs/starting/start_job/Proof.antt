@@ -39,7 +39,7 @@ sorted : (c : tie.After-add-job) → Sorted (part possiblyAt (c .before .before 
 sorted c =
     let a = c .before .before .before in
     let σ = stateOf (a .args .m) (a .args .k) (now (a .args .out)) in
-    parts-sorted (a .args .m) (a .args .k) (c .add-job .last .0) σ (set (σ .finish) (a .args .i) (range (a .args .e) (a .args .f))) (c .add-job .ensures .0) (a .pre .6)
+    parts-sorted (a .args .m) (a .args .k) (c .add-job .last .0) σ (set (σ .finish) (a .args .start .job) (range (a .args .start .earliest) (a .args .start .latest))) (c .add-job .ensures .0) (a .pre .6)
 
 long : (c : tie.After-add-job) → stateWords (c .before .before .before .args .m) (c .before .before .before .args .k) ≤ length (c .add-job .last .0)
 long c = omega (arith, c .before .before .before .pre .3, c .add-job .kept .0)
@@ -95,7 +95,7 @@ returns c =
     let lx : length ys ≡ m = rw p at (x .kept .0) ∙ part-length possiblyAt m ws (omega arith) in
     let ly : length zs ≡ m = rw (p, q) at (y .kept .0) ∙ part-length (certainlyAt m) m (putMid possiblyAt m ws ys) (omega (arith, length-put possiblyAt m ws ys (omega arith) lx)) in
     rw (p, q) (
-      started-state m k ws ys zs long lx ly (stateOf m k (now (a .args .out))) (a .args .i) (a .args .s) (a .args .e) (a .args .f) (w .ensures .0) (rw p at (x .ensures)) (rw (p, q) at (y .ensures)),
+      started-state m k ws ys zs long lx ly (stateOf m k (now (a .args .out))) (a .args .start .job) (a .args .start .start) (a .args .start .earliest) (a .args .start .latest) (w .ensures .0) (rw p at (x .ensures)) (rw (p, q) at (y .ensures)),
       updated-set m k ws ys zs long lx ly ∙ w .ensures .1,
     )
 

@@ -10,7 +10,7 @@ use Rattle.model.specs.States.{Range}
 use Rattle.model.specs.Exploration.{limited, stored}
 use Rattle.jobs.specs.Rows.{jobsOf}
 use Rattle.states.specs.Slots.{stateOf, statesOf}
-use Rattle.states.specs.Writing.{withStart}
+use Rattle.states.specs.Writing.{afterStart}
 use Rattle.steps.specs.Observed.{observedOf}
 use Rattle.steps.proofs.Following.{inside, most-positive, fresh, takes-time, new-bounded, edge-late, edge-kept}
 use borrow.Author.Needs.{needs}
@@ -21,7 +21,7 @@ observe-requires : tie.Need-observe-requires
 observe-requires c κs =
     let p = c .before .before .before .before .before .before .pre in
     let a = c .before .before .before .before .before .before .args in
-    (p .0, p .1 .setting .jobs, takes-time (jobsOf (now (a .rows)) (a .k)) (stateOf (a .m) (a .k) (now (a .cur))) (a .i) (a .s) (a .e) (a .f) (p .2) (most-positive (now (a .rows)) (a .k) (a .m) (p .1 .setting) (a .i) (p .0)), p .1 .observed)
+    (p .0, p .1 .setting .jobs, takes-time (jobsOf (now (a .rows)) (a .shape .jobs)) (stateOf (a .shape .cores) (a .shape .jobs) (now (a .cur))) (a .start) (p .2) (most-positive (now (a .rows)) (a .shape .jobs) (a .shape .cores) (p .1 .setting) (a .start .job) (p .0)), p .1 .observed)
 
 deadline-requires : tie.Need-deadline-requires
 deadline-requires c κs = search needs
@@ -33,11 +33,11 @@ returns : tie.Need-returns
 returns c =
     let a = c .before .before .before .before .before .before .before .before .before .before .before .args in
     let p = c .before .before .before .before .before .before .before .before .before .before .before .pre in
-    let js = jobsOf (now (a .rows)) (a .k) in
-    let σ = stateOf (a .m) (a .k) (now (a .cur)) in
-    let late : job js (a .i) .deadline < a .f = omega (arith, c .if1 .taken, c .before .deadline .ensures) in
+    let js = jobsOf (now (a .rows)) (a .shape .jobs) in
+    let σ = stateOf (a .shape .cores) (a .shape .jobs) (now (a .cur)) in
+    let late : job js (a .start .job) .deadline < a .start .latest = omega (arith, c .if1 .taken, c .before .deadline .ensures) in
     record {
-      same = λ n. edge-late js σ (a .i) (a .s) (a .e) (a .f) (p .2) (a .cap) (statesOf (a .m) (a .k) (now (a .half)) (a .n)) (observedOf (a .k) (now (a .seen))) n late;
+      same = λ n. edge-late js σ (a .start) (p .2) (a .shape .capacity) (statesOf (a .shape .cores) (a .shape .jobs) (now (a .half)) (a .n)) (observedOf (a .shape .jobs) (now (a .seen))) n late;
       sound = tt;
       observed = c .before .before .before .before .observe .ensures .1;
     }
@@ -46,11 +46,11 @@ store-successor-requires : tie.Need-store-successor-requires
 store-successor-requires c κs =
     let a = c .before .before .before .before .before .before .before .before .before .before .before .before .before .args in
     let p = c .before .before .before .before .before .before .before .before .before .before .before .before .before .pre in
-    let js = jobsOf (now (a .rows)) (a .k) in
-    let σ = stateOf (a .m) (a .k) (now (a .cur)) in
+    let js = jobsOf (now (a .rows)) (a .shape .jobs) in
+    let σ = stateOf (a .shape .cores) (a .shape .jobs) (now (a .cur)) in
     let given = p .1 in
     let half = given .target .0 in (
-      (p .0, given .setting .jobs, given .setting .cores, given .setting .few-cores, given .words, given .sound .set-fits, fresh js σ (a .i) (a .s) (a .e) (a .f) (p .2), given .sound .bounded .ordered),
+      (p .0, given .setting .jobs, given .setting .cores, given .setting .few-cores, given .words, given .sound .set-fits, fresh js σ (a .start) (p .2), given .sound .bounded .ordered),
       (omega (arith, half .long), half .room, λ j l. half .sound j l .set-fits, given .target .1),
     )
 
@@ -67,19 +67,19 @@ returns-2 : tie.Need-returns-2
 returns-2 c =
     let a = c .before .before .before .before .before .before .before .before .before .before .before .before .before .before .before .before .before .before .args in
     let p = c .before .before .before .before .before .before .before .before .before .before .before .before .before .before .before .before .before .before .pre in
-    let js = jobsOf (now (a .rows)) (a .k) in
-    let σ = stateOf (a .m) (a .k) (now (a .cur)) in
-    let l = statesOf (a .m) (a .k) (now (a .half)) (a .n) in
+    let js = jobsOf (now (a .rows)) (a .shape .jobs) in
+    let σ = stateOf (a .shape .cores) (a .shape .jobs) (now (a .cur)) in
+    let l = statesOf (a .shape .cores) (a .shape .jobs) (now (a .half)) (a .n) in
     let given = p .1 in
     let x = c .before .before .before .before .store-successor .ensures in
     let o = c .before .before .before .before .before .before .before .before .before .before .before .observe .ensures in
-    let timely : a .f ≤ job js (a .i) .deadline = omega (arith, c .before .before .before .before .before .before .before .if1 .left, c .before .before .before .before .before .before .before .before .deadline .ensures) in
-    let τ = withStart σ (a .i) (a .s) (a .e) (a .f) in
+    let timely : a .start .latest ≤ job js (a .start .job) .deadline = omega (arith, c .before .before .before .before .before .before .before .if1 .left, c .before .before .before .before .before .before .before .before .deadline .ensures) in
+    let τ = afterStart σ (a .start) in
     record {
-      same = λ n. x .0 (observedOf (a .k) (c .before .before .before .before .before .before .before .before .before .before .before .observe .last .0)) n
-          ∙ ap (λ (seen : List Range). limited (a .cap) τ (stored τ l) seen n) (o .0)
-          ∙ edge-kept js σ (a .i) (a .s) (a .e) (a .f) (p .2) (a .cap) l (observedOf (a .k) (now (a .seen))) n timely;
-      sound = x .1 js (given .target .0) (new-bounded js σ (a .i) (a .s) (a .e) (a .f) (p .2) latestTime (given .setting .timed) (given .sound .bounded) (inside (now (a .rows)) (a .k) (a .m) (given .setting) (a .i) (p .0)) timely);
+      same = λ n. x .0 (observedOf (a .shape .jobs) (c .before .before .before .before .before .before .before .before .before .before .before .observe .last .0)) n
+          ∙ ap (λ (seen : List Range). limited (a .shape .capacity) τ (stored τ l) seen n) (o .0)
+          ∙ edge-kept js σ (a .start) (p .2) (a .shape .capacity) l (observedOf (a .shape .jobs) (now (a .seen))) n timely;
+      sound = x .1 js (given .target .0) (new-bounded js σ (a .start) (p .2) latestTime (given .setting .timed) (given .sound .bounded) (inside (now (a .rows)) (a .shape .jobs) (a .shape .cores) (given .setting) (a .start .job) (p .0)) timely);
       observed = o .1;
     }
 

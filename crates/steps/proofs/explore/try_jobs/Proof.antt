@@ -1,64 +1,44 @@
 -- `try_jobs` meets its contract: a job that is no candidate leaves the exploration as it is, and so does every job once it has stopped. Assumes nothing.
-use Prim.Native.Nat.{ℕ, _+_, _-_, _<_, _≤_}
-use mathlib.Core.Path.{_≡_, refl, sym, ap, _∙_, subst}
+use Prim.Native.Nat.{_+_, _-_, _<_, _≤_}
+use mathlib.Core.Path.{_≡_, refl, sym, _∙_, subst}
 use mathlib.Core.Bool.{true}
 use native.Mathlib.Omega.{arith}
-use lib.ListN.{getD, length, take}
+use lib.ListN.{getD, length}
 use denote.Ref.{now}
 use borrow.Author.Needs.{needs}
 use Rattle.model.specs.Edges.{candidate}
-use Rattle.model.specs.Exploration.{Exploration, going, tryJob}
-use Rattle.jobs.specs.Rows.{jobsOf}
-use Rattle.states.specs.Slots.{stateOf, statesOf}
+use Rattle.edges.specs.Edges.{Prepared}
 use Rattle.edges.proofs.Listing.{listed-candidate}
-use Rattle.steps.specs.Observed.{observedOf, Observed}
-use Rattle.steps.specs.Progress.{progressOf, Target, HalfAt}
+use Rattle.steps.specs.Progress.{jobsIn, stateIn, goingIn}
 use Rattle.steps.specs.declared.step.Step.{Step}
-use Rattle.steps.proofs.Following.{tryListed, one-more, all-tried, stopped}
+use Rattle.steps.specs.declared.step.Step.the-variants.{Going}
+use Rattle.steps.proofs.Following.{Tried, tried-more, tried-all, tried-enough}
 use Rattle.steps.proofs.explore.try_jobs.Statement.{statement}
 use Rattle.steps.proofs.explore.try_jobs.Tie as tie
 
 abbrev Inv-loop : tie.InvT-loop
-Inv-loop half₀ seen₀ heads₀ n cap rows k cur m list bound stored₀ t₀ half seen heads stored t =
-    (t ≤ length list) × Target (jobsOf rows k) m k cap half heads stored × Observed k seen × ((x : ℕ) → going (statesOf m k half stored) (observedOf k seen) x ≡ tryListed (jobsOf rows k) cap (stateOf m k cur) (take t list) (going (statesOf m k half₀ n) (observedOf k seen₀) x))
+Inv-loop half₀ seen₀ heads₀ n rows cur shape list k m bound stored₀ t₀ half seen heads stored t =
+    (t ≤ length list) × Tried (jobsIn shape rows) shape (stateIn shape cur) list (λ c. goingIn shape half₀ n seen₀ c) t (Going stored) half seen heads
 
 abbrev μ-loop : tie.MeasureT-loop
-μ-loop half₀ seen₀ heads₀ n cap rows k cur m list bound stored₀ t₀ half seen heads stored t = length list - t
+μ-loop half₀ seen₀ heads₀ n rows cur shape list k m bound stored₀ t₀ half seen heads stored t = length list - t
 
--- the exploration before the first candidate
-abbrev from : (c : tie.Start Inv-loop μ-loop) → ℕ → Exploration
-from c x = going (statesOf (c .args .m) (c .args .k) (now (c .args .half)) (c .args .n)) (observedOf (c .args .k) (now (c .args .seen))) x
+-- ---- before the loop
 
--- and after the one at place t, whatever it leaves
-so-far : (c : tie.After-try-job Inv-loop μ-loop) (x : ℕ) →
-    progressOf (c .before .before .before .before .before .before .before .before .before .before .before .before .before .args .m) (c .before .before .before .before .before .before .before .before .before .before .before .before .before .args .k) (observedOf (c .before .before .before .before .before .before .before .before .before .before .before .before .before .args .k) (c .try-job .last .1 .0)) x (c .try-job .result) (c .try-job .last .0)
-    ≡ tryListed (jobsOf (now (c .before .before .before .before .before .before .before .before .before .before .before .before .before .args .rows)) (c .before .before .before .before .before .before .before .before .before .before .before .before .before .args .k)) (c .before .before .before .before .before .before .before .before .before .before .before .before .before .args .cap) (stateOf (c .before .before .before .before .before .before .before .before .before .before .before .before .before .args .m) (c .before .before .before .before .before .before .before .before .before .before .before .before .before .args .k) (now (c .before .before .before .before .before .before .before .before .before .before .before .before .before .args .cur))) (take (c .before .before .before .before .before .before .loop .t + 1) (now (c .before .before .before .before .before .before .before .before .before .before .before .before .before .args .list))) (from (c .before .before .before .before .before .before .before .before .before .before .before .before .before) x)
-so-far c x =
-    let a = c .before .before .before .before .before .before .before .before .before .before .before .before .before .args in
-    let i = c .before .before .before .before .before .before .loop in
-    let js = jobsOf (now (a .rows)) (a .k) in
-    let σ = stateOf (a .m) (a .k) (now (a .cur)) in
-    let h : i .t < length (now (a .list)) = omega arith in
-    c .try-job .ensures .same x ∙ ap (tryJob js (a .cap) σ (getD (now (a .list)) (i .t) 0)) (i .inv .3 x)
-    ∙ sym (one-more js (a .cap) σ (from (c .before .before .before .before .before .before .before .before .before .before .before .before .before) x) (now (a .list)) (i .t) h)
+-- the words of the state, and its candidates
+prepared : (c : tie.Start Inv-loop μ-loop) → Prepared (now (c .args .rows)) (c .args .shape .jobs) (now (c .args .cur)) (c .args .shape .cores) (now (c .args .list))
+prepared c =
+    let p = c .pre .0 in
+    record { readable = record { setting = p .setting; words = p .words }; bounded = p .sound .bounded; listed = c .pre .1 }
 
--- no slice changes its length
-kept : (c : tie.After-try-job Inv-loop μ-loop) → (length (c .try-job .last .0) ≡ length (now (c .before .before .before .before .before .before .before .before .before .before .before .before .before .args .half))) × (length (c .try-job .last .1 .0) ≡ length (now (c .before .before .before .before .before .before .before .before .before .before .before .before .before .args .seen))) × (length (c .try-job .last .1 .1 .0) ≡ length (now (c .before .before .before .before .before .before .before .before .before .before .before .before .before .args .heads)))
-kept c =
-    let p = c .before .before .before .before .before .before .before .before .before .before .before .before .before .pre .0 in
-    let i = c .before .before .before .before .before .before .loop .inv in
-    let k = c .try-job .kept in
-    (k .0 ∙ i .1 .0 .long ∙ sym (p .target .0 .long), k .1 .0 ∙ i .2 .long ∙ sym (p .observed .long), k .1 .1 .0 ∙ i .1 .1 .long ∙ sym (p .target .1 .long))
+work-conserving-bound-requires : tie.Need-work-conserving-bound-requires Inv-loop μ-loop
+work-conserving-bound-requires c κs = prepared (c .before .before .before .before .before .before)
 
 loop-holds : tie.Need-loop-holds Inv-loop μ-loop
 loop-holds c =
-    let p = c .before .before .before .before .before .before .pre in (omega arith, p .0 .target, p .0 .observed, λ x. refl)
+    let p = c .before .before .before .before .before .before .before .pre .0 in (omega arith, record { same = λ x. refl; sound = p .target; observed = p .observed })
 
--- it is a candidate
-asked : (c : tie.After-shared-slice-known4 Inv-loop μ-loop) → (getD (now (c .before .before .before .before .before .before .before .before .before .args .list)) (c .before .before .loop .t) 0 < c .before .before .before .before .before .before .before .before .before .args .k) × (candidate (jobsOf (now (c .before .before .before .before .before .before .before .before .before .args .rows)) (c .before .before .before .before .before .before .before .before .before .args .k)) (stateOf (c .before .before .before .before .before .before .before .before .before .args .m) (c .before .before .before .before .before .before .before .before .before .args .k) (now (c .before .before .before .before .before .before .before .before .before .args .cur))) (getD (now (c .before .before .before .before .before .before .before .before .before .args .list)) (c .before .before .loop .t) 0) ≡ true)
-asked c =
-    let a = c .before .before .before .before .before .before .before .before .before .args in
-    listed-candidate (jobsOf (now (a .rows)) (a .k)) (stateOf (a .m) (a .k) (now (a .cur))) (a .k) (now (a .list)) (c .before .before .before .before .before .before .before .before .before .pre .1) (c .before .before .loop .t) (omega arith)
+-- ---- a candidate in turn
 
 mul-i : tie.Need-mul-i Inv-loop μ-loop
 mul-i c = search needs
@@ -66,111 +46,89 @@ mul-i c = search needs
 shared-slice-read-i : tie.Need-shared-slice-read-i Inv-loop μ-loop
 shared-slice-read-i c = search needs
 
+-- the words on entry
+abbrev entry : tie.In-loop Inv-loop μ-loop → tie.Start Inv-loop μ-loop
+entry c = c .before .before .before .before .before .before .before .before .before
+
+-- the listed job is a candidate
+asked : (c : tie.In-loop Inv-loop μ-loop) → (getD (now (entry c .args .list)) (c .before .loop .t) 0 < entry c .args .shape .jobs) × (candidate (jobsIn (entry c .args .shape) (now (entry c .args .rows))) (stateIn (entry c .args .shape) (now (entry c .args .cur))) (getD (now (entry c .args .list)) (c .before .loop .t) 0) ≡ true)
+asked c =
+    let a = entry c .args in
+    listed-candidate (jobsIn (a .shape) (now (a .rows))) (stateIn (a .shape) (now (a .cur))) (a .shape .jobs) (now (a .list)) (entry c .pre .1) (c .before .loop .t) (omega arith)
+
 cast-i : tie.Need-cast-i Inv-loop μ-loop
-cast-i c = omega (arith, asked c .0)
+cast-i c = omega (arith, asked (c .before) .0)
+
+edge-of-requires : tie.Need-edge-of-requires Inv-loop μ-loop
+edge-of-requires c κs = (asked (c .before) .0, prepared (entry (c .before)), asked (c .before) .1, c .before .before .before .work-conserving-bound .ensures)
 
 try-job-requires : tie.Need-try-job-requires Inv-loop μ-loop
 try-job-requires c κs =
-    let p = c .before .before .before .before .before .before .before .before .before .before .before .before .pre in
-    let i = c .before .before .before .before .before .loop .inv in
-    let j = asked (c .before .before .before) in
-    (j .0, record { setting = p .0 .setting; words = p .0 .words; sound = p .0 .sound; target = i .1; observed = i .2 }, p .1, j .1, p .2)
+    let p = entry (c .before .before .before .before .before) .pre .0 in
+    let i = c .before .before .before .before .before .before .loop .inv .1 in
+    (asked (c .before .before .before .before .before) .0, record { setting = p .setting; words = p .words; sound = p .sound; target = i .sound; observed = i .observed }, c .before .before .before .edge-of .ensures)
 
-enum-known-x : tie.Need-enum-known-x Inv-loop μ-loop
-enum-known-x c = search needs
+enum-known-step : tie.Need-enum-known-step Inv-loop μ-loop
+enum-known-step c = search needs
 
-enum-known-l : tie.Need-enum-known-l Inv-loop μ-loop
-enum-known-l c = search needs
+-- ---- what it leaves
+
+-- no slice changes its length
+kept : (c : tie.After-try-job Inv-loop μ-loop) → (length (c .try-job .last .0) ≡ length (now (entry (c .before .before .before .before .before .before) .args .half))) × (length (c .try-job .last .1 .0) ≡ length (now (entry (c .before .before .before .before .before .before) .args .seen))) × (length (c .try-job .last .1 .1 .0) ≡ length (now (entry (c .before .before .before .before .before .before) .args .heads)))
+kept c =
+    let p = entry (c .before .before .before .before .before .before) .pre .0 in
+    let i = c .before .before .before .before .before .before .before .loop .inv .1 in
+    let k = c .try-job .kept in
+    (k .0 ∙ i .sound .0 .long ∙ sym (p .target .0 .long), k .1 .0 ∙ i .observed .long ∙ sym (p .observed .long), k .1 .1 .0 ∙ i .sound .1 .long ∙ sym (p .target .1 .long))
+
+-- one candidate more is tried
+more : (c : tie.After-try-job Inv-loop μ-loop) → Tried (jobsIn (entry (c .before .before .before .before .before .before) .args .shape) (now (entry (c .before .before .before .before .before .before) .args .rows))) (entry (c .before .before .before .before .before .before) .args .shape) (stateIn (entry (c .before .before .before .before .before .before) .args .shape) (now (entry (c .before .before .before .before .before .before) .args .cur))) (now (entry (c .before .before .before .before .before .before) .args .list)) (λ x. goingIn (entry (c .before .before .before .before .before .before) .args .shape) (now (entry (c .before .before .before .before .before .before) .args .half)) (entry (c .before .before .before .before .before .before) .args .n) (now (entry (c .before .before .before .before .before .before) .args .seen)) x) (c .before .before .before .before .before .before .before .loop .t + 1) (c .try-job .result) (c .try-job .last .0) (c .try-job .last .1 .0) (c .try-job .last .1 .1 .0)
+more c =
+    let a = entry (c .before .before .before .before .before .before) .args in
+    tried-more (jobsIn (a .shape) (now (a .rows))) (a .shape) (stateIn (a .shape) (now (a .cur))) (now (a .list)) (λ x. goingIn (a .shape) (now (a .half)) (a .n) (now (a .seen)) x) (c .before .before .before .before .before .before .before .loop .t) (c .before .before .before .before .before .before .loop-test .taken) (c .before .before .before .before .before .before .before .loop .inv .1) (c .try-job .ensures)
 
 same-length : tie.Need-same-length Inv-loop μ-loop
-same-length c = kept (c .before .before .before .before .before .before .before .before .before) .0
+same-length c = kept (c .before .before .before .before .before .before .before) .0
 
 same-length-2 : tie.Need-same-length-2 Inv-loop μ-loop
-same-length-2 c = kept (c .before .before .before .before .before .before .before .before .before) .1
+same-length-2 c = kept (c .before .before .before .before .before .before .before) .1
 
 same-length-3 : tie.Need-same-length-3 Inv-loop μ-loop
-same-length-3 c = kept (c .before .before .before .before .before .before .before .before .before) .2
+same-length-3 c = kept (c .before .before .before .before .before .before .before) .2
 
 returns : tie.Need-returns Inv-loop μ-loop
 returns c =
-    let a = c .before .before .before .before .before .before .before .before .before .before .before .before .before .before .before .before .before .before .before .before .before .before .args in
-    let i = c .before .before .before .before .before .before .before .before .before .before .before .before .before .before .before .loop in
-    let y = c .before .before .before .before .before .before .before .before .before in
-    let js = jobsOf (now (a .rows)) (a .k) in
-    let σ = stateOf (a .m) (a .k) (now (a .cur)) in
-    let q = c .before .l .given .1 in
-    let same : (z : Step) → ℕ → Exploration = λ z x. progressOf (a .m) (a .k) (observedOf (a .k) (y .try-job .last .1 .0)) x z (y .try-job .last .0) in
-    record {
-      same = λ x. stopped js (a .cap) σ (a .k) (now (a .list)) (c .before .before .before .before .before .before .before .before .before .before .before .before .before .before .before .before .before .before .before .before .before .before .pre .1) (from (c .before .before .before .before .before .before .before .before .before .before .before .before .before .before .before .before .before .before .before .before .before .before) x) _ (i .t + 1) tt (ap (λ (z : Step). same z x) (sym q) ∙ so-far y x);
-      sound = tt;
-      observed = y .try-job .ensures .observed;
-    }
-
-enum-known-j : tie.Need-enum-known-j Inv-loop μ-loop
-enum-known-j c = search needs
-
-same-length-4 : tie.Need-same-length-4 Inv-loop μ-loop
-same-length-4 c = kept (c .before .before .before .before .before .before .before .before .before) .0
-
-same-length-5 : tie.Need-same-length-5 Inv-loop μ-loop
-same-length-5 c = kept (c .before .before .before .before .before .before .before .before .before) .1
-
-same-length-6 : tie.Need-same-length-6 Inv-loop μ-loop
-same-length-6 c = kept (c .before .before .before .before .before .before .before .before .before) .2
-
-returns-2 : tie.Need-returns-2 Inv-loop μ-loop
-returns-2 c =
-    let a = c .before .before .before .before .before .before .before .before .before .before .before .before .before .before .before .before .before .before .before .before .before .before .args in
-    let i = c .before .before .before .before .before .before .before .before .before .before .before .before .before .before .before .loop in
-    let y = c .before .before .before .before .before .before .before .before .before in
-    let js = jobsOf (now (a .rows)) (a .k) in
-    let σ = stateOf (a .m) (a .k) (now (a .cur)) in
-    let q = c .before .j .given .1 in
-    let same : (z : Step) → ℕ → Exploration = λ z x. progressOf (a .m) (a .k) (observedOf (a .k) (y .try-job .last .1 .0)) x z (y .try-job .last .0) in
-    record {
-      same = λ x. stopped js (a .cap) σ (a .k) (now (a .list)) (c .before .before .before .before .before .before .before .before .before .before .before .before .before .before .before .before .before .before .before .before .before .before .pre .1) (from (c .before .before .before .before .before .before .before .before .before .before .before .before .before .before .before .before .before .before .before .before .before .before) x) _ (i .t + 1) tt (ap (λ (z : Step). same z x) (sym q) ∙ so-far y x);
-      sound = tt;
-      observed = y .try-job .ensures .observed;
-    }
+    let a = entry (c .before .before .before .before .before .before .before .before .before .before .before .before .before) .args in
+    tried-enough (jobsIn (a .shape) (now (a .rows))) (a .shape) (stateIn (a .shape) (now (a .cur))) (now (a .list)) (λ x. goingIn (a .shape) (now (a .half)) (a .n) (now (a .seen)) x) (entry (c .before .before .before .before .before .before .before .before .before .before .before .before .before) .pre .1) (c .before .before .before .before .before .before .before .before .before .before .before .before .before .before .loop .t + 1) (c .match .keys2) (more (c .before .before .before .before .before .before .before))
 
 add-t : tie.Need-add-t Inv-loop μ-loop
-add-t c = omega (arith, c .before .before .before .before .before .before .before .before .before .before .before .before .before .before .loop-test .taken, c .before .before .before .before .before .before .before .before .before .before .before .before .before .before .before .before .before .before .before .before .before .before .good)
+add-t c = omega (arith, c .before .before .before .before .before .before .before .before .before .before .before .before .before .before .before .loop-test .taken, entry (c .before .before .before .before .before .before .before .before .before .before .before .before .before .before .before) .good)
 
 loop-less : tie.Need-loop-less Inv-loop μ-loop
 loop-less c = search needs
 
 loop-again : tie.Need-loop-again Inv-loop μ-loop
 loop-again c =
-    let a = c .before .before .before .before .before .before .before .before .before .before .before .before .before .before .before .before .before .before .before .before .before .before .args in
-    let y = c .before .before .before .before .before .before .before .before .before in
-    let q = c .before .x .given .1 in
-    let same : (z : Step) → ℕ → Exploration = λ z x. progressOf (a .m) (a .k) (observedOf (a .k) (y .try-job .last .1 .0)) x z (y .try-job .last .0) in (
-      omega (arith, c .before .before .before .before .before .before .before .before .before .before .before .before .before .before .loop-test .taken),
-      subst (λ (z : Step). HalfAt (jobsOf (now (a .rows)) (a .k)) (a .m) (a .k) (a .cap) z (y .try-job .last .0) (y .try-job .last .1 .1 .0)) q (y .try-job .ensures .sound),
-      y .try-job .ensures .observed,
-      λ x. ap (λ (z : Step). same z x) (sym q) ∙ so-far y x,
+    let a = entry (c .before .before .before .before .before .before .before .before .before .before .before .before .before .before .before) .args in (
+      omega (arith, c .before .before .before .before .before .before .before .before .before .before .before .before .before .before .before .loop-test .taken),
+      subst (λ (z : Step). Tried (jobsIn (a .shape) (now (a .rows))) (a .shape) (stateIn (a .shape) (now (a .cur))) (now (a .list)) (λ x. goingIn (a .shape) (now (a .half)) (a .n) (now (a .seen)) x) (c .before .before .before .before .before .before .before .before .before .before .before .before .before .before .before .before .loop .t + 1) z (c .before .before .before .before .before .before .before .before .before .try-job .last .0) (c .before .before .before .before .before .before .before .before .before .try-job .last .1 .0) (c .before .before .before .before .before .before .before .before .before .try-job .last .1 .1 .0)) (c .before .step .given .1) (more (c .before .before .before .before .before .before .before .before .before)),
     )
 
-same-length-7 : tie.Need-same-length-7 Inv-loop μ-loop
-same-length-7 c = search needs
+-- ---- after the last
 
-same-length-8 : tie.Need-same-length-8 Inv-loop μ-loop
-same-length-8 c = search needs
+same-length-4 : tie.Need-same-length-4 Inv-loop μ-loop
+same-length-4 c = search needs
 
-same-length-9 : tie.Need-same-length-9 Inv-loop μ-loop
-same-length-9 c = search needs
+same-length-5 : tie.Need-same-length-5 Inv-loop μ-loop
+same-length-5 c = search needs
 
-returns-3 : tie.Need-returns-3 Inv-loop μ-loop
-returns-3 c =
-    let a = c .before .before .before .before .before .before .before .before .args in
-    let i = c .before .loop in
-    let js = jobsOf (now (a .rows)) (a .k) in
-    let σ = stateOf (a .m) (a .k) (now (a .cur)) in
-    record {
-      same = λ x. i .inv .3 x ∙ all-tried js (a .cap) σ (a .k) (now (a .list)) (c .before .before .before .before .before .before .before .before .pre .1) (from (c .before .before .before .before .before .before .before .before) x) (i .t) (omega arith);
-      sound = i .inv .1;
-      observed = i .inv .2;
-    }
+same-length-6 : tie.Need-same-length-6 Inv-loop μ-loop
+same-length-6 c = search needs
+
+returns-2 : tie.Need-returns-2 Inv-loop μ-loop
+returns-2 c =
+    let a = c .before .before .before .before .before .before .before .before .before .args in
+    tried-all (jobsIn (a .shape) (now (a .rows))) (a .shape) (stateIn (a .shape) (now (a .cur))) (now (a .list)) (λ x. goingIn (a .shape) (now (a .half)) (a .n) (now (a .seen)) x) (c .before .before .before .before .before .before .before .before .before .pre .1) (c .before .loop .t) (omega arith) (c .before .loop .inv .1)
 
 pub try-jobs-spec : {M : Type 1} → statement M
 try-jobs-spec =
@@ -178,26 +136,22 @@ try-jobs-spec =
     (tie.spec
     Inv-loop
     μ-loop
+    work-conserving-bound-requires
     loop-holds
     mul-i
     shared-slice-read-i
     cast-i
+    edge-of-requires
     try-job-requires
-    enum-known-x
-    enum-known-l
+    enum-known-step
     same-length
     same-length-2
     same-length-3
     returns
-    enum-known-j
-    same-length-4
-    same-length-5
-    same-length-6
-    returns-2
     add-t
     loop-less
     loop-again
-    same-length-7
-    same-length-8
-    same-length-9
-    returns-3)
+    same-length-4
+    same-length-5
+    same-length-6
+    returns-2)

@@ -4,9 +4,8 @@ use lib.ListN.{take}
 use lib.Seq.{length-take-le}
 use denote.Ref.{now}
 use borrow.Author.Needs.{needs}
-use Rattle.jobs.specs.Rows.{jobsOf}
-use Rattle.states.specs.Slots.{stateOf}
 use Rattle.edges.specs.Edges.{candidates}
+use Rattle.steps.specs.Progress.{jobsIn, stateIn}
 use Rattle.steps.proofs.explore.try_state.Statement.{statement}
 use Rattle.steps.proofs.explore.try_state.Tie as tie
 
@@ -14,34 +13,27 @@ slice-aggregate-list-candidates : tie.Need-slice-aggregate-list-candidates
 slice-aggregate-list-candidates c = search needs
 
 list-candidates-requires : tie.Need-list-candidates-requires
-list-candidates-requires c κs =
-    let p = c .before .before .before .before .before .before .before .pre in (p .0 .0 .jobs, p .1 .0, p .0 .1, p .0 .0 .jobs)
+list-candidates-requires c κs = let p = c .before .before .before .before .before .before .before .pre in (p .0 .0 .jobs, p .1 .0, p .0 .1, p .0 .0 .jobs)
 
 array-share-prefix-list : tie.Need-array-share-prefix-list
 array-share-prefix-list c = search needs
 
-slice-aggregate-work-conserving-bound : tie.Need-slice-aggregate-work-conserving-bound
-slice-aggregate-work-conserving-bound c = sym (length-take-le _ _ (c .before .before .list-candidates .ensures .0))
+slice-aggregate-try-jobs : tie.Need-slice-aggregate-try-jobs
+slice-aggregate-try-jobs c = sym (length-take-le _ _ (c .before .before .before .before .before .list-candidates .ensures .0))
+
+-- the words on entry
+abbrev entry : tie.After-list-candidates → tie.Start
+entry c = c .before .before .before .before .before .before .before .before
 
 -- the listed jobs are the candidates
-listed : (c : tie.After-list-candidates) → take (c .list-candidates .result) (c .list-candidates .last .1 .1 .1 .1 .0) ≡ candidates (jobsOf (now (c .before .before .before .before .before .before .before .before .args .rows)) (c .before .before .before .before .before .before .before .before .args .k)) (stateOf (c .before .before .before .before .before .before .before .before .args .m) (c .before .before .before .before .before .before .before .before .args .k) (now (c .before .before .before .before .before .before .before .before .args .cur))) (c .before .before .before .before .before .before .before .before .args .k)
-listed c = c .list-candidates .ensures .1 (jobsOf (now (c .before .before .before .before .before .before .before .before .args .rows)) (c .before .before .before .before .before .before .before .before .args .k)) (c .before .before .before .before .before .before .before .before .pre .0 .2)
-
-work-conserving-bound-requires : tie.Need-work-conserving-bound-requires
-work-conserving-bound-requires c κs =
-    let p = c .before .before .before .before .before .before .before .before .before .before .pre in
-    record { readable = record { setting = p .0 .0; words = p .1 .0 }; bounded = p .1 .1 .bounded; listed = listed (c .before .before) }
-
-array-share-prefix-list-2 : tie.Need-array-share-prefix-list-2
-array-share-prefix-list-2 c = search needs
-
-slice-aggregate-try-jobs : tie.Need-slice-aggregate-try-jobs
-slice-aggregate-try-jobs c = sym (length-take-le _ _ (c .before .before .before .before .before .before .before .list-candidates .ensures .0))
+listed : (c : tie.After-list-candidates) → take (c .list-candidates .result) (c .list-candidates .last .1 .1 .1 .1 .0) ≡ candidates (jobsIn (entry c .args .shape) (now (entry c .args .rows))) (stateIn (entry c .args .shape) (now (entry c .args .cur))) (entry c .args .shape .jobs)
+listed c = c .list-candidates .ensures .1 (jobsIn (entry c .args .shape) (now (entry c .args .rows))) (entry c .pre .0 .2)
 
 try-jobs-requires : tie.Need-try-jobs-requires
 try-jobs-requires c κs =
-    let p = c .before .before .before .before .before .before .before .before .before .before .before .before .before .before .before .pre in
-    (record { setting = p .0 .0; words = p .1 .0; sound = p .1 .1; target = p .1 .2; observed = p .1 .3 }, listed (c .before .before .before .before .before .before .before), c .before .before .before .before .work-conserving-bound .ensures)
+    let x = c .before .before .before .before .before in
+    let p = entry x .pre in
+    (record { setting = p .0 .0; words = p .1 .0; sound = p .1 .1; target = p .1 .2; observed = p .1 .3 }, listed x)
 
 same-length : tie.Need-same-length
 same-length c = search needs
@@ -53,7 +45,7 @@ same-length-3 : tie.Need-same-length-3
 same-length-3 c = search needs
 
 returns : tie.Need-returns
-returns c = c .before .before .before .before .before .before .try-jobs .ensures
+returns c = search needs
 
 pub try-state-spec : {M : Type 1} → statement M
 try-state-spec =
@@ -62,9 +54,6 @@ try-state-spec =
     slice-aggregate-list-candidates
     list-candidates-requires
     array-share-prefix-list
-    slice-aggregate-work-conserving-bound
-    work-conserving-bound-requires
-    array-share-prefix-list-2
     slice-aggregate-try-jobs
     try-jobs-requires
     same-length

@@ -11,10 +11,11 @@ use Rattle.model.specs.States.{Range, State}
 use Rattle.model.specs.Exploration.{full, limited, stored, stateWords}
 use Rattle.model.specs.internal.Bounds.{Bounded}
 use Rattle.states.specs.Slots.{setOf, stateOf, statesOf, Sound}
-use Rattle.states.specs.Writing.{withStart}
+use Rattle.states.specs.Writing.{afterStart}
 use Rattle.states.proofs.Starts.{joined-fits}
 use Rattle.store.specs.Half.{levelOf, SoundAt, IndexedAt}
 use Rattle.store.specs.declared.Stored.{Stored}
+use Rattle.steps.specs.Progress.{stateIn}
 use Rattle.steps.proofs.successor.store_successor.Statement.{statement}
 use Rattle.steps.proofs.successor.store_successor.Tie as tie
 
@@ -27,15 +28,24 @@ write-successor-requires c κs = search needs
 slice-aggregate-store-state : tie.Need-slice-aggregate-store-state
 slice-aggregate-store-state c = search needs
 
--- the new state's words
-fits : (c : tie.After-write-successor) → setOf (c .write-successor .last .0) < 2 ^ c .before .before .before .before .before .args .k
-fits c =
-    let a = c .before .before .before .before .before .args in
-    let p = c .before .before .before .before .before .pre .0 in
-    subst (λ z. z < 2 ^ a .k) (sym (c .write-successor .ensures .1)) (joined-fits (a .m) (a .k) (now (a .cur)) (a .i) (p .0) (p .5) (p .6))
+-- the words on entry
+abbrev entry : tie.After-write-successor → tie.Start
+entry c = c .before .before .before .before .before
 
-long : (c : tie.After-write-successor) → stateWords (c .before .before .before .before .before .args .m) (c .before .before .before .before .before .args .k) ≤ length (c .write-successor .last .0)
-long c = omega (arith, c .write-successor .kept .0, c .before .before .before .before .before .pre .0)
+-- the new state's set holds jobs of the check only
+fits : (c : tie.After-write-successor) → setOf (c .write-successor .last .0) < 2 ^ entry c .args .shape .jobs
+fits c =
+    let a = entry c .args in
+    let p = entry c .pre .0 in
+    subst (λ z. z < 2 ^ a .shape .jobs) (sym (c .write-successor .ensures .1)) (joined-fits (a .shape .cores) (a .shape .jobs) (now (a .cur)) (a .start .job) (p .0) (p .5) (p .6))
+
+-- its words are there
+long : (c : tie.After-write-successor) → stateWords (entry c .args .shape .cores) (entry c .args .shape .jobs) ≤ length (c .write-successor .last .0)
+long c = omega (arith, c .write-successor .kept .0, entry c .pre .0)
+
+-- the state that is stored
+abbrev new : tie.After-write-successor → State
+new c = afterStart (stateIn (entry c .args .shape) (now (entry c .args .cur))) (entry c .args .start)
 
 store-state-requires : tie.Need-store-state-requires
 store-state-requires c κs =
@@ -56,13 +66,12 @@ level-of-requires c κs = (omega (arith, long (c .before .before .before .before
 
 -- the half once the new state is stored, or the level that is full
 level : (c : tie.After-store-state) (seen : List Range) (n : ℕ) →
-    levelOf (c .before .before .before .before .before .before .before .before .before .before .args .m) (c .before .before .before .before .before .before .before .before .before .before .args .k) (stateOf (c .before .before .before .before .before .before .before .before .before .before .args .m) (c .before .before .before .before .before .before .before .before .before .before .args .k) (c .before .before .before .before .before .write-successor .last .0)) seen n (c .store-state .result) (c .store-state .last .0)
-    ≡ limited (c .before .before .before .before .before .before .before .before .before .before .args .cap) (withStart (stateOf (c .before .before .before .before .before .before .before .before .before .before .args .m) (c .before .before .before .before .before .before .before .before .before .before .args .k) (now (c .before .before .before .before .before .before .before .before .before .before .args .cur))) (c .before .before .before .before .before .before .before .before .before .before .args .i) (c .before .before .before .before .before .before .before .before .before .before .args .s) (c .before .before .before .before .before .before .before .before .before .before .args .e) (c .before .before .before .before .before .before .before .before .before .before .args .f))
-    (stored (withStart (stateOf (c .before .before .before .before .before .before .before .before .before .before .args .m) (c .before .before .before .before .before .before .before .before .before .before .args .k) (now (c .before .before .before .before .before .before .before .before .before .before .args .cur))) (c .before .before .before .before .before .before .before .before .before .before .args .i) (c .before .before .before .before .before .before .before .before .before .before .args .s) (c .before .before .before .before .before .before .before .before .before .before .args .e) (c .before .before .before .before .before .before .before .before .before .before .args .f)) (statesOf (c .before .before .before .before .before .before .before .before .before .before .args .m) (c .before .before .before .before .before .before .before .before .before .before .args .k) (now (c .before .before .before .before .before .before .before .before .before .before .args .half)) (c .before .before .before .before .before .before .before .before .before .before .args .n))) seen n
+    levelOf (entry (c .before .before .before .before .before) .args .shape .cores) (entry (c .before .before .before .before .before) .args .shape .jobs) (stateIn (entry (c .before .before .before .before .before) .args .shape) (c .before .before .before .before .before .write-successor .last .0)) seen n (c .store-state .result) (c .store-state .last .0)
+    ≡ limited (entry (c .before .before .before .before .before) .args .shape .capacity) (new (c .before .before .before .before .before)) (stored (new (c .before .before .before .before .before)) (statesOf (entry (c .before .before .before .before .before) .args .shape .cores) (entry (c .before .before .before .before .before) .args .shape .jobs) (now (entry (c .before .before .before .before .before) .args .half)) (entry (c .before .before .before .before .before) .args .n))) seen n
 level c seen n =
-    let a = c .before .before .before .before .before .before .before .before .before .before .args in
+    let a = entry (c .before .before .before .before .before) .args in
     c .store-state .ensures .0 seen n
-    ∙ ap (λ (τ : State). limited (a .cap) τ (stored τ (statesOf (a .m) (a .k) (now (a .half)) (a .n))) seen n) (c .before .before .before .before .before .write-successor .ensures .0)
+    ∙ ap (λ (τ : State). limited (a .shape .capacity) τ (stored τ (statesOf (a .shape .cores) (a .shape .jobs) (now (a .half)) (a .n))) seen n) (c .before .before .before .before .before .write-successor .ensures .0)
 
 same-length : tie.Need-same-length
 same-length c = search needs
@@ -76,11 +85,11 @@ returns c =
     let x = c .before .before .before .before .before .before .before in
     let new = c .before .before .before .before .before .before .before .before .before .before .before .before .write-successor .last .0 in
     let q = c .before .stored .given .1 in (
-      λ seen n. ap (λ (z : Stored). levelOf (a .m) (a .k) (stateOf (a .m) (a .k) new) seen n z (x .store-state .last .0)) (sym q) ∙ level x seen n,
+      λ seen n. ap (λ (z : Stored). levelOf (a .shape .cores) (a .shape .jobs) (stateOf (a .shape .cores) (a .shape .jobs) new) seen n z (x .store-state .last .0)) (sym q) ∙ level x seen n,
       λ js h bounded.
-          let sound : Sound js (a .m) (a .k) new = record { set-fits = fits (c .before .before .before .before .before .before .before .before .before .before .before .before); bounded = subst (Bounded js latestTime) (sym (c .before .before .before .before .before .before .before .before .before .before .before .before .write-successor .ensures .0)) bounded } in
-          let kept = subst (λ (z : Stored). SoundAt js (a .m) (a .k) (a .cap) z (x .store-state .last .0)) q (x .store-state .ensures .1 .0 js (h .sound) sound) in
-          let index = subst (λ (z : Stored). IndexedAt (a .m) (a .k) z (x .store-state .last .0) (x .store-state .last .1 .0)) q (x .store-state .ensures .1 .1) in
+          let sound : Sound js (a .shape .cores) (a .shape .jobs) new = record { set-fits = fits (c .before .before .before .before .before .before .before .before .before .before .before .before); bounded = subst (Bounded js latestTime) (sym (c .before .before .before .before .before .before .before .before .before .before .before .before .write-successor .ensures .0)) bounded } in
+          let kept = subst (λ (z : Stored). SoundAt js (a .shape .cores) (a .shape .jobs) (a .shape .capacity) z (x .store-state .last .0)) q (x .store-state .ensures .1 .0 js (h .sound) sound) in
+          let index = subst (λ (z : Stored). IndexedAt (a .shape .cores) (a .shape .jobs) z (x .store-state .last .0) (x .store-state .last .1 .0)) q (x .store-state .ensures .1 .1) in
           (record { long = x .store-state .kept .0 ∙ h .long; room = kept .0; sound = kept .1 }, index),
     )
 
@@ -96,7 +105,7 @@ returns-2 c =
     let x = c .before .before .before .before .before .before .before .before in
     let new = c .before .before .before .before .before .before .before .before .before .before .before .before .before .write-successor .last .0 in
     let q = c .before .before .enum-told .given .1 in (
-      λ seen n. ap full (c .level-of .ensures) ∙ ap (λ (z : Stored). levelOf (a .m) (a .k) (stateOf (a .m) (a .k) new) seen n z (x .store-state .last .0)) (sym q) ∙ level x seen n,
+      λ seen n. ap full (c .level-of .ensures) ∙ ap (λ (z : Stored). levelOf (a .shape .cores) (a .shape .jobs) (stateOf (a .shape .cores) (a .shape .jobs) new) seen n z (x .store-state .last .0)) (sym q) ∙ level x seen n,
       λ js h bounded. tt,
     )
 

@@ -5,7 +5,7 @@ use native.Mathlib.Omega.{arith}
 use borrow.Author.Needs.{needs}
 use Rattle.model.specs.States.{State, started}
 use Rattle.model.specs.internal.Sorted.{Ordered}
-use Rattle.states.specs.Writing.{withStart}
+use Rattle.states.specs.Writing.{afterStart}
 use Rattle.steps.proofs.successor.write_successor.Statement.{statement}
 use Rattle.steps.proofs.successor.write_successor.Tie as tie
 
@@ -22,7 +22,7 @@ start-job-requires c κs =
       p .2,
       omega (arith, x .kept .0, p .5),
       subst (λ z. z < 2 ^ a .k) (sym (x .ensures .1)) (p .6),
-      ap (λ (σ : State). started σ (a .i)) (x .ensures .0) ∙ p .7,
+      ap (λ (σ : State). started σ (a .start .job)) (x .ensures .0) ∙ p .7,
       subst Ordered (sym (x .ensures .0)) (p .8),
     )
 
@@ -34,7 +34,7 @@ returns c =
     let a = c .before .before .before .before .before .before .before .before .before .before .args in
     let x = c .before .before .before .before .before .before .load-state .ensures in
     let y = c .before .before .start-job .ensures in
-    (y .0 ∙ ap (λ (σ : State). withStart σ (a .i) (a .s) (a .e) (a .f)) (x .0), y .1 ∙ ap (λ n. n + 2 ^ a .i) (x .1))
+    (y .0 ∙ ap (λ (σ : State). afterStart σ (a .start)) (x .0), y .1 ∙ ap (λ n. n + 2 ^ a .start .job) (x .1))
 
 pub write-successor-spec : {M : Type 1} → statement M
 write-successor-spec = tie.close (tie.spec load-state-requires start-job-requires same-length returns)
