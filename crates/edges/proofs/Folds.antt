@@ -14,16 +14,23 @@ use Rattle.model.specs.Folds as folds
 use Rattle.edges.specs.Edges.{listBelow, noLimit, limitWord}
 use Rattle.edges.proofs.Listing.{fold-listed, fold-turn}
 
--- ---- the largest: the larger of r and what is left, from index j on, is the result t
+-- ---- the largest: the larger of r and what is left of the n elements, from index j on, is the whole
 
-module _ (p : ℕ → Bool) (f : ℕ → ℕ) (l : List ℕ) (j r t : ℕ) (left : max r (largest p f (drop j l)) ≡ t) where
-  pub largest-done : length l ≤ j → r ≡ t
-  unfolding largest
-  largest-done h = omega (arith, left, ap (largest p f) (drop-of-length-le l h))
+module _ (p : ℕ → Bool) (f : ℕ → ℕ) (l : List ℕ) (whole : ℕ) where
+  abbrev pub LargestLeft : ℕ → ℕ → ℕ → Type 0
+  LargestLeft n r j = (n ≡ length l) × (max r (largest p f (drop j l)) ≡ whole)
 
-  pub largest-goes-on : j < length l → max (max r (cond (p (getD l j 0)) (f (getD l j 0)) 0)) (largest p f (drop (j + 1) l)) ≡ t
+  -- one element more: r′ is the larger of r and what it gives
+  pub largest-next : (n r j x r′ : ℕ) → LargestLeft n r j → j < n → x ≡ cond (p (getD l j 0)) (f (getD l j 0)) 0 → r′ ≡ max r x → LargestLeft n r′ (j + 1)
   unfolding largest
-  largest-goes-on h = omega (arith, left, ap (largest p f) (drop-cons l j 0 h), ap (λ (n : ℕ). largest p f (drop n l)) (add-one j))
+  largest-next n r j x r′ (many, left) h e q =
+      let here = drop-cons l j 0 (omega arith) in
+      (many, omega (arith, left, e, q, ap (largest p f) here, ap (λ (z : ℕ). largest p f (drop z l)) (add-one j)))
+
+  -- with no element left, r is the whole
+  pub largest-done : (n r j : ℕ) → LargestLeft n r j → n ≤ j → r ≡ whole
+  unfolding largest
+  largest-done n r j (many, left) h = omega (arith, left, ap (largest p f) (drop-of-length-le l {i = j} (omega arith)))
 
 -- ---- the smallest of those in a list that pass: r is that of the elements before index t
 

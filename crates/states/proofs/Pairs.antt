@@ -7,7 +7,7 @@ use native.Mathlib.Nat.{le-of-suc-le-suc, not-suc-le-zero}
 use native.Mathlib.Numerals.{add-one}
 use native.Mathlib.Omega.{arith}
 use lib.Dec.{leb}
-use lib.ListN.{length, take, drop, getD, set, drop-of-length-le}
+use lib.ListN.{length, take, drop, getD, set, length-set, drop-of-length-le}
 use lib.Seq.{drop-cons, take-suc-set, drop-set-lt, take-all}
 use borrow.Author.Tests.{le-leb, lt-leb}
 use Rattle.model.specs.Folds.{everyTwo}
@@ -34,21 +34,28 @@ module _ (x y : List ℕ) (i : ℕ) (n : length x ≡ length y) where
       let h₂ : length y ≤ i = omega arith in
       rw (drop-of-length-le x {i = i} h, drop-of-length-le y {i = i} h₂)
 
--- ---- two lists made one, element by element
+-- ---- two lists made one, element by element: d₀ and s, where d is d₀ with the elements before index i done
 
-module _ (f : ℕ → ℕ → ℕ) (d s : List ℕ) where
-  pub zip-on : (i v : ℕ) → i < length d → length d ≡ length s → v ≡ f (getD d i 0) (getD s i 0)
-      → take i d ++ zipWith f (drop i d) (drop i s) ≡ take (i + 1) (set d i v) ++ zipWith f (drop (i + 1) (set d i v)) (drop (i + 1) s)
+module _ (f : ℕ → ℕ → ℕ) (d₀ s : List ℕ) where
+  abbrev pub ZippedUpTo : List ℕ → ℕ → Type 0
+  ZippedUpTo d i = (i ≤ length d) × (length d ≡ length d₀) × (zipWith f d₀ s ≡ take i d ++ zipWith f (drop i d) (drop i s))
+
+  -- one element more
+  pub zip-next : (d : List ℕ) (i v : ℕ) → length d₀ ≡ length s → ZippedUpTo d i → i < length d → v ≡ f (getD d i 0) (getD s i 0) → ZippedUpTo (set d i v) (i + 1)
   unfolding zipWith
-  zip-on i v h n e =
+  zip-next d i v n (b, l, done) h e =
       let h₂ : i < length s = omega arith in
       let p : take (suc i) (set d i v) ≡ take i d ++ (v ∷ []) = take-suc-set d i v h in
       let q : drop (suc i) (set d i v) ≡ drop (suc i) d = drop-set-lt (suc i) d i v (omega arith) in
-      rw (add-one, p, q, e, drop-cons d i 0 h, drop-cons s i 0 h₂) (sym (append-assoc (take i d) (f (getD d i 0) (getD s i 0) ∷ []) (zipWith f (drop (suc i) d) (drop (suc i) s))))
+      let step : take i d ++ zipWith f (drop i d) (drop i s) ≡ take (i + 1) (set d i v) ++ zipWith f (drop (i + 1) (set d i v)) (drop (i + 1) s) =
+      rw (add-one, p, q, e, drop-cons d i 0 h, drop-cons s i 0 h₂) (sym (append-assoc (take i d) (f (getD d i 0) (getD s i 0) ∷ []) (zipWith f (drop (suc i) d) (drop (suc i) s)))) in
+      (simp length-set (omega arith), simp length-set l, done ∙ step)
 
-  pub zip-end : (i : ℕ) → length d ≤ i → d ≡ take i d ++ zipWith f (drop i d) (drop i s)
+  -- with all elements done
+  pub zip-end : (d : List ℕ) (i : ℕ) → ZippedUpTo d i → length d ≤ i → d ≡ zipWith f d₀ s
   unfolding zipWith
-  zip-end i h = sym (ap (λ (z : List ℕ). take i d ++ zipWith f z (drop i s)) (drop-of-length-le d {i = i} h) ∙ append-nil (take i d) ∙ take-all i d h)
+  zip-end d i (b, l, done) h =
+      sym (take-all i d h) ∙ sym (append-nil (take i d)) ∙ ap (λ (z : List ℕ). take i d ++ zipWith f z (drop i s)) (sym (drop-of-length-le d {i = i} h)) ∙ sym done
 
 pub getD-zip : (f : ℕ → ℕ → ℕ) (d s : List ℕ) (i : ℕ) → i < length d → length d ≡ length s → getD (zipWith f d s) i 0 ≡ f (getD d i 0) (getD s i 0)
 unfolding zipWith

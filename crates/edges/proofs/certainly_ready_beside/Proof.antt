@@ -1,28 +1,23 @@
 -- `edges::certainly_ready_beside` meets its contract. The loop's invariant: the larger of `ready` and what the predecessors left give is the result.
 -- Assumes nothing.
-use Prim.Native.Nat.{ℕ, _-_, max}
-use mathlib.Core.Path.{_≡_}
-use mathlib.Core.Bool.{Bool, not}
+use Prim.Native.Nat.{ℕ, _-_}
+use mathlib.Core.Bool.{not}
 use native.Mathlib.Omega.{arith}
-use lib.ListN.{length, drop}
 use denote.Ref.{now}
 use borrow.Author.Needs.{needs}
-use Rattle.model.specs.Folds.{member, largest}
+use Rattle.model.specs.Folds.{member}
 use Rattle.model.specs.Jobs.{predecessors}
 use Rattle.model.specs.States.{latest, finishOf}
 use Rattle.model.specs.Edges.{certainlyReadyBeside}
 use Rattle.jobs.specs.Rows.{jobsOf}
 use Rattle.states.specs.Slots.{stateOf}
-use Rattle.edges.proofs.Folds.{largest-done, largest-goes-on}
+use Rattle.edges.proofs.Folds.{LargestLeft, largest-next, largest-done}
 use Rattle.edges.proofs.certainly_ready_beside.Statement.{statement}
 use Rattle.edges.proofs.certainly_ready_beside.Tie as tie
 
 abbrev Inv-loop : tie.InvT-loop
 Inv-loop rows k s m i j n ready₀ h₀ ready h =
-    (n ≡ length (predecessors (jobsOf rows k) j))
-    × (max ready (largest (λ (w : ℕ). not (member w (predecessors (jobsOf rows k) i)))
-    (λ (w : ℕ). latest (finishOf (stateOf m k s) w)) (drop h (predecessors (jobsOf rows k) j)))
-    ≡ certainlyReadyBeside (jobsOf rows k) (stateOf m k s) i j)
+    LargestLeft (λ (w : ℕ). not (member w (predecessors (jobsOf rows k) i))) (λ (w : ℕ). latest (finishOf (stateOf m k s) w)) (predecessors (jobsOf rows k) j) (certainlyReadyBeside (jobsOf rows k) (stateOf m k s) i j) n ready h
 
 abbrev μ-loop : tie.MeasureT-loop
 μ-loop rows k s m i j n ready₀ h₀ ready h = n - h
@@ -55,25 +50,16 @@ loop-less c = search needs
 loop-again : tie.Need-loop-again Inv-loop μ-loop
 loop-again c =
     let a = c .before .before .before .before .before .before .before .before .before .args in
-    let js = jobsOf (now (a .rows)) (a .k) in
-    let σ = stateOf (a .m) (a .k) (now (a .s)) in
-    let p : ℕ → Bool = λ w. not (member w (predecessors js (a .i))) in
-    let f : ℕ → ℕ = λ w. latest (finishOf σ w) in
-    let i = c .before .before .before .before .loop in (
-      i .inv .0,
-      rw (c .larger .ensures, c .before .latest-finish-beside .ensures, c .before .before .predecessor .ensures .0)
-          (largest-goes-on p f (predecessors js (a .j)) (i .h) (i .ready) (certainlyReadyBeside js σ (a .i) (a .j)) (i .inv .1) (omega (arith, i .inv .0))),
-    )
+    let i = c .before .before .before .before .loop in
+    let w = c .before .before .predecessor in
+    let x = c .before .latest-finish-beside in
+    largest-next (λ (w : ℕ). not (member w (predecessors (jobsOf (now (a .rows)) (a .k)) (a .i)))) (λ (w : ℕ). latest (finishOf (stateOf (a .m) (a .k) (now (a .s))) w)) (predecessors (jobsOf (now (a .rows)) (a .k)) (a .j)) (certainlyReadyBeside (jobsOf (now (a .rows)) (a .k)) (stateOf (a .m) (a .k) (now (a .s))) (a .i) (a .j)) (c .before .before .before .before .before .before .predecessor-count .result) (i .ready) (i .h) (x .result) (c .larger .result) (i .inv) (omega arith) (rw (← w .ensures .0) (x .ensures)) (c .larger .ensures)
 
 returns : tie.Need-returns Inv-loop μ-loop
 returns c =
     let a = c .before .before .before .before .before .before .args in
-    let js = jobsOf (now (a .rows)) (a .k) in
-    let σ = stateOf (a .m) (a .k) (now (a .s)) in
-    let p : ℕ → Bool = λ w. not (member w (predecessors js (a .i))) in
-    let f : ℕ → ℕ = λ w. latest (finishOf σ w) in
     let i = c .before .loop in
-    largest-done p f (predecessors js (a .j)) (i .h) (i .ready) (certainlyReadyBeside js σ (a .i) (a .j)) (i .inv .1) (omega (arith, i .inv .0))
+    largest-done (λ (w : ℕ). not (member w (predecessors (jobsOf (now (a .rows)) (a .k)) (a .i)))) (λ (w : ℕ). latest (finishOf (stateOf (a .m) (a .k) (now (a .s))) w)) (predecessors (jobsOf (now (a .rows)) (a .k)) (a .j)) (certainlyReadyBeside (jobsOf (now (a .rows)) (a .k)) (stateOf (a .m) (a .k) (now (a .s))) (a .i) (a .j)) (c .before .before .before .predecessor-count .result) (i .ready) (i .h) (i .inv) (omega arith)
 
 pub certainly-ready-beside-spec : {M : Type 1} → statement M
 certainly-ready-beside-spec =

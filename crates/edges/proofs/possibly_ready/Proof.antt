@@ -1,26 +1,22 @@
 -- `edges::possibly_ready` meets its contract. The loop's invariant: the larger of `ready` and what the predecessors left give is the result.
 -- Assumes nothing.
-use Prim.Native.Nat.{ℕ, _-_, max}
-use mathlib.Core.Path.{_≡_}
+use Prim.Native.Nat.{ℕ, _-_}
 use native.Mathlib.Omega.{arith}
-use lib.ListN.{length, drop}
 use denote.Ref.{now}
 use borrow.Author.Needs.{needs}
-use Rattle.model.specs.Folds.{largest, all}
+use Rattle.model.specs.Folds.{all}
 use Rattle.model.specs.Jobs.{predecessors}
 use Rattle.model.specs.States.{earliest, finishOf}
 use Rattle.model.specs.Edges.{possiblyReady}
 use Rattle.jobs.specs.Rows.{jobsOf}
 use Rattle.states.specs.Slots.{stateOf}
-use Rattle.edges.proofs.Folds.{largest-done, largest-goes-on}
+use Rattle.edges.proofs.Folds.{LargestLeft, largest-next, largest-done}
 use Rattle.edges.proofs.possibly_ready.Statement.{statement}
 use Rattle.edges.proofs.possibly_ready.Tie as tie
 
 abbrev Inv-loop : tie.InvT-loop
 Inv-loop rows k s m i n ready₀ j₀ ready j =
-    (n ≡ length (predecessors (jobsOf rows k) i))
-    × (max ready (largest all (λ (w : ℕ). earliest (finishOf (stateOf m k s) w)) (drop j (predecessors (jobsOf rows k) i)))
-    ≡ possiblyReady (jobsOf rows k) (stateOf m k s) i)
+    LargestLeft all (λ (w : ℕ). earliest (finishOf (stateOf m k s) w)) (predecessors (jobsOf rows k) i) (possiblyReady (jobsOf rows k) (stateOf m k s) i) n ready j
 
 abbrev μ-loop : tie.MeasureT-loop
 μ-loop rows k s m i n ready₀ j₀ ready j = n - j
@@ -53,23 +49,16 @@ loop-less c = search needs
 loop-again : tie.Need-loop-again Inv-loop μ-loop
 loop-again c =
     let a = c .before .before .before .before .before .before .before .before .before .args in
-    let js = jobsOf (now (a .rows)) (a .k) in
-    let σ = stateOf (a .m) (a .k) (now (a .s)) in
-    let f : ℕ → ℕ = λ w. earliest (finishOf σ w) in
-    let i = c .before .before .before .before .loop in (
-      i .inv .0,
-      rw (c .larger .ensures, c .before .earliest-finish .ensures, c .before .before .predecessor .ensures .0)
-          (largest-goes-on all f (predecessors js (a .i)) (i .j) (i .ready) (possiblyReady js σ (a .i)) (i .inv .1) (omega (arith, i .inv .0))),
-    )
+    let i = c .before .before .before .before .loop in
+    let w = c .before .before .predecessor in
+    let x = c .before .earliest-finish in
+    largest-next all (λ (w : ℕ). earliest (finishOf (stateOf (a .m) (a .k) (now (a .s))) w)) (predecessors (jobsOf (now (a .rows)) (a .k)) (a .i)) (possiblyReady (jobsOf (now (a .rows)) (a .k)) (stateOf (a .m) (a .k) (now (a .s))) (a .i)) (c .before .before .before .before .before .before .predecessor-count .result) (i .ready) (i .j) (x .result) (c .larger .result) (i .inv) (omega arith) (rw (← w .ensures .0) (x .ensures)) (c .larger .ensures)
 
 returns : tie.Need-returns Inv-loop μ-loop
 returns c =
     let a = c .before .before .before .before .before .before .args in
-    let js = jobsOf (now (a .rows)) (a .k) in
-    let σ = stateOf (a .m) (a .k) (now (a .s)) in
-    let f : ℕ → ℕ = λ w. earliest (finishOf σ w) in
     let i = c .before .loop in
-    largest-done all f (predecessors js (a .i)) (i .j) (i .ready) (possiblyReady js σ (a .i)) (i .inv .1) (omega (arith, i .inv .0))
+    largest-done all (λ (w : ℕ). earliest (finishOf (stateOf (a .m) (a .k) (now (a .s))) w)) (predecessors (jobsOf (now (a .rows)) (a .k)) (a .i)) (possiblyReady (jobsOf (now (a .rows)) (a .k)) (stateOf (a .m) (a .k) (now (a .s))) (a .i)) (c .before .before .before .predecessor-count .result) (i .ready) (i .j) (i .inv) (omega arith)
 
 pub possibly-ready-spec : {M : Type 1} → statement M
 possibly-ready-spec =

@@ -1,17 +1,16 @@
 -- `lower_to` meets its contract: the words so far are done. Assumes nothing.
-use Prim.Native.Nat.{_-_, _≤_, min}
-use mathlib.Core.Path.{_≡_, refl, sym, _∙_}
-use mathlib.Core.List.{_++_, zipWith}
+use Prim.Native.Nat.{_-_, min}
+use mathlib.Core.Path.{refl}
 use native.Mathlib.Omega.{arith}
-use lib.ListN.{length, take, drop, length-set}
+use lib.ListN.{length}
 use denote.Ref.{now}
-use Rattle.states.proofs.Pairs.{zip-on, zip-end}
+use Rattle.states.proofs.Pairs.{ZippedUpTo, zip-next, zip-end}
 use borrow.Author.Needs.{needs}
 use Rattle.states.proofs.merging.lower_to.Statement.{statement}
 use Rattle.states.proofs.merging.lower_to.Tie as tie
 
 abbrev Inv-loop : tie.InvT-loop
-Inv-loop d₀ s i₀ d i = (i ≤ length d) × (length d ≡ length d₀) × (zipWith min d₀ s ≡ take i d ++ zipWith min (drop i d) (drop i s))
+Inv-loop d₀ s i₀ d i = ZippedUpTo min d₀ s d i
 
 abbrev μ-loop : tie.MeasureT-loop
 μ-loop d₀ s i₀ d i = length d₀ - i
@@ -49,11 +48,8 @@ loop-less c = search needs
 loop-again : tie.Need-loop-again Inv-loop μ-loop
 loop-again c =
     let a = c .before .before .before .before .before .before .before in
-    let t = c .before .before .before .before .loop in (
-      simp length-set (omega arith),
-      simp length-set (t .inv .1),
-      t .inv .2 ∙ zip-on min (t .d) (now (a .args .s)) (t .i) (c .smaller .result) (omega arith) (t .inv .1 ∙ a .pre) (c .smaller .ensures),
-    )
+    let t = c .before .before .before .before .loop in
+    zip-next min (now (a .args .d)) (now (a .args .s)) (t .d) (t .i) (c .smaller .result) (a .pre) (t .inv) (omega arith) (c .smaller .ensures)
 
 same-length : tie.Need-same-length Inv-loop μ-loop
 same-length c = search needs
@@ -62,7 +58,7 @@ returns : tie.Need-returns Inv-loop μ-loop
 returns c =
     let a = c .before .before .before .before in
     let t = c .before .loop in
-    zip-end min (t .d) (now (a .args .s)) (t .i) (omega arith) ∙ sym (t .inv .2)
+    zip-end min (now (a .args .d)) (now (a .args .s)) (t .d) (t .i) (t .inv) (omega arith)
 
 pub lower-to-spec : {M : Type 1} → statement M
 lower-to-spec =

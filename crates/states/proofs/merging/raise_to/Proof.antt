@@ -1,17 +1,16 @@
 -- `raise_to` meets its contract: the words so far are done. Assumes nothing.
-use Prim.Native.Nat.{_-_, _≤_, max}
-use mathlib.Core.Path.{_≡_, refl, sym, _∙_}
-use mathlib.Core.List.{_++_, zipWith}
+use Prim.Native.Nat.{_-_, max}
+use mathlib.Core.Path.{refl}
 use native.Mathlib.Omega.{arith}
-use lib.ListN.{length, take, drop, length-set}
+use lib.ListN.{length}
 use denote.Ref.{now}
-use Rattle.states.proofs.Pairs.{zip-on, zip-end}
+use Rattle.states.proofs.Pairs.{ZippedUpTo, zip-next, zip-end}
 use borrow.Author.Needs.{needs}
 use Rattle.states.proofs.merging.raise_to.Statement.{statement}
 use Rattle.states.proofs.merging.raise_to.Tie as tie
 
 abbrev Inv-loop : tie.InvT-loop
-Inv-loop d₀ s i₀ d i = (i ≤ length d) × (length d ≡ length d₀) × (zipWith max d₀ s ≡ take i d ++ zipWith max (drop i d) (drop i s))
+Inv-loop d₀ s i₀ d i = ZippedUpTo max d₀ s d i
 
 abbrev μ-loop : tie.MeasureT-loop
 μ-loop d₀ s i₀ d i = length d₀ - i
@@ -49,11 +48,8 @@ loop-less c = search needs
 loop-again : tie.Need-loop-again Inv-loop μ-loop
 loop-again c =
     let a = c .before .before .before .before .before .before .before in
-    let t = c .before .before .before .before .loop in (
-      simp length-set (omega arith),
-      simp length-set (t .inv .1),
-      t .inv .2 ∙ zip-on max (t .d) (now (a .args .s)) (t .i) (c .larger .result) (omega arith) (t .inv .1 ∙ a .pre) (c .larger .ensures),
-    )
+    let t = c .before .before .before .before .loop in
+    zip-next max (now (a .args .d)) (now (a .args .s)) (t .d) (t .i) (c .larger .result) (a .pre) (t .inv) (omega arith) (c .larger .ensures)
 
 same-length : tie.Need-same-length Inv-loop μ-loop
 same-length c = search needs
@@ -62,7 +58,7 @@ returns : tie.Need-returns Inv-loop μ-loop
 returns c =
     let a = c .before .before .before .before in
     let t = c .before .loop in
-    zip-end max (t .d) (now (a .args .s)) (t .i) (omega arith) ∙ sym (t .inv .2)
+    zip-end max (now (a .args .d)) (now (a .args .s)) (t .d) (t .i) (t .inv) (omega arith)
 
 pub raise-to-spec : {M : Type 1} → statement M
 raise-to-spec =
