@@ -19,13 +19,13 @@ use Rattle.words.proofs.Parts.{part-length, part-same, length-put}
 use Rattle.words.specs.internal.Parts.{part}
 use Rattle.jobs.specs.Rows.{jobsOf}
 use Rattle.jobs.proofs.Jobs.{length-jobs}
-use Rattle.states.specs.Slots.{setOf, stateOf, slotOf, statesOf, Sound}
-use Rattle.store.specs.Half.{buckets}
+use Rattle.states.specs.internal.Slots.{setOf, stateOf, slotOf, statesOf, Sound}
+use Rattle.store.specs.internal.Half.{buckets}
 use Rattle.store.proofs.Storing.{slot-fits}
 use Rattle.store.proofs.Indexing.{nothing-indexed}
-use Rattle.steps.specs.Observed.{observedOf, Observed}
-use Rattle.steps.specs.Progress.{progressOf, Half, Target, HalfAt, Leaves}
-use Rattle.analysis.specs.Outcomes.{Halves}
+use Rattle.steps.specs.internal.Observed.{observedOf, Observed}
+use Rattle.steps.specs.internal.Progress.{progressOf, Half, Target, HalfAt, Leaves}
+use Rattle.analysis.specs.internal.Outcomes.{Halves}
 use Rattle.steps.specs.declared.shape.Shape.{Shape}
 use Rattle.steps.specs.declared.step.Step.{Step}
 use Rattle.steps.specs.declared.step.Step.the-variants.{Going}

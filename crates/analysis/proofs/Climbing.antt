@@ -16,10 +16,10 @@ use Rattle.words.proofs.Parts.{part-length, drop-after}
 use Rattle.words.specs.internal.Parts.{part}
 use Rattle.jobs.specs.Rows.{jobsOf}
 use Rattle.jobs.proofs.Jobs.{length-jobs}
-use Rattle.states.specs.Slots.{stateOf, slotOf, statesOf}
-use Rattle.steps.specs.Observed.{observedOf, Observed}
-use Rattle.steps.specs.Progress.{progressOf, Half, HalfAt, Leaves}
-use Rattle.analysis.specs.Outcomes.{Halves}
+use Rattle.states.specs.internal.Slots.{stateOf, slotOf, statesOf}
+use Rattle.steps.specs.internal.Observed.{observedOf, Observed}
+use Rattle.steps.specs.internal.Progress.{progressOf, Half, HalfAt, Leaves}
+use Rattle.analysis.specs.internal.Outcomes.{Halves}
 use Rattle.steps.specs.declared.step.Step.{Step}
 use Rattle.steps.specs.declared.step.Step.the-variants.{Going, Full, Late}
 use Rattle.steps.proofs.Following.{Stopped}

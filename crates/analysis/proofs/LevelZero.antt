@@ -23,10 +23,10 @@ use Rattle.words.proofs.Parts.{part-length, part-get, part-same, length-put, dr
 use Rattle.words.specs.internal.Parts.{part}
 use Rattle.jobs.specs.Rows.{jobsOf}
 use Rattle.jobs.proofs.Jobs.{length-jobs}
-use Rattle.states.specs.Slots.{possiblyAt, certainlyAt, setOf, rangeAt, stateOf, slotOf, statesOf, Sound}
+use Rattle.states.specs.internal.Slots.{possiblyAt, certainlyAt, setOf, rangeAt, stateOf, slotOf, statesOf, Sound}
 use Rattle.states.proofs.Frames.{same-state}
-use Rattle.steps.specs.Observed.{observedWords, observedAt, observedOf, Observed}
-use Rattle.steps.specs.Progress.{Half}
+use Rattle.steps.specs.internal.Observed.{observedWords, observedAt, observedOf, Observed}
+use Rattle.steps.specs.internal.Progress.{Half}
 use Rattle.analysis.proofs.Halves.{part-part}
 use Rattle.analysis.proofs.Climbing.{stops}
 

@@ -1,2 +1,2 @@
 -- What the words say while levels are built.
-pub mod Outcomes
+pub mod internal

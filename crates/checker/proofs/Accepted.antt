@@ -18,8 +18,8 @@ use Rattle.model.specs.internal.Bounds.{TimedUpTo, Between}
 use Rattle.model.proofs.Soundness.{all-reported}
 use Rattle.jobs.specs.Rows.{jobsOf, Setting}
 use Rattle.jobs.proofs.Jobs.{length-jobs}
-use Rattle.ranges.specs.Ranges.{rangeIn}
-use Rattle.steps.specs.Observed.{observedOf, Observed}
+use Rattle.ranges.specs.internal.Ranges.{rangeIn}
+use Rattle.steps.specs.internal.Observed.{observedOf, Observed}
 use Rattle.steps.proofs.Ranges.{observed-at}
 use Rattle.checker.specs.Finished.{Finished}
 

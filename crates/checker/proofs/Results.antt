@@ -15,7 +15,7 @@ use Rattle.model.specs.Exploration.{accepted}
 use Rattle.words.proofs.Tabulate.{tabulate-is}
 use Rattle.jobs.specs.Rows.{jobsOf}
 use Rattle.jobs.proofs.Jobs.{length-jobs}
-use Rattle.steps.specs.Observed.{observedOf}
+use Rattle.steps.specs.internal.Observed.{observedOf}
 use Rattle.steps.proofs.Ranges.{observed-at}
 use Rattle.checker.specs.Checking.{perJob, resultOf, boundOf, boundsOf}
 use Rattle.checker.specs.Finished.{releaseOf, responseOf, Released, Finished}

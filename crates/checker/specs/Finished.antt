@@ -6,7 +6,7 @@ use Rattle.model.specs.Limits.{mostJobs}
 use Rattle.model.specs.Jobs.{job}
 use Rattle.model.specs.Exploration.{analysis, capacity}
 use Rattle.jobs.specs.Rows.{jobsOf, Rows}
-use Rattle.steps.specs.Observed.{Observed}
+use Rattle.steps.specs.internal.Observed.{Observed}
 use Rattle.checker.specs.Checking.{resultOf}
 use Rattle.checker.specs.declared.Checked.{Checked}
 

@@ -5,7 +5,7 @@ ghost use lib.ListN.{length, take, drop};
 ghost use Rattle.model.specs.Limits.{mostJobs};
 ghost use Rattle.model.specs.Exploration.{accepted};
 ghost use Rattle.jobs.specs.Rows.{jobsOf, Rows};
-ghost use Rattle.steps.specs.Observed.{observedOf};
+ghost use Rattle.steps.specs.internal.Observed.{observedOf};
 ghost use Rattle.checker.specs.Checking.{perJob, resultOf};
 ghost use Rattle.checker.specs.Finished.{Released, responseOf, Finished};
 use crate::Answer;

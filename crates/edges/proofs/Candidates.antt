@@ -17,9 +17,9 @@ use Rattle.model.specs.States.{started}
 use Rattle.model.specs.Edges.{candidate}
 use Rattle.model.proofs.Booleans.{cases, and-left, and-right, and-both, or-cases}
 use Rattle.model.proofs.Folds.{every-in, every-out, below-suc}
-use Rattle.states.specs.Slots.{setOf, inSet, stateOf}
+use Rattle.states.specs.internal.Slots.{setOf, inSet, stateOf}
 use Rattle.states.proofs.Contents.{started-at}
-use Rattle.edges.specs.Edges.{PredecessorSet, PredecessorSets}
+use Rattle.edges.specs.internal.Edges.{PredecessorSet, PredecessorSets}
 use Rattle.states.proofs.Bits.{in-meet, in-union, in-one, same-set}
 
 -- ---- the set of a list's elements: each is in the set r, or left in the list from index j on

@@ -15,8 +15,8 @@ use Rattle.model.specs.States.{State, first}
 use Rattle.model.specs.Edges.{orZero, isBelow, lastBelow, candidate, certainlyReady, certainlyReadyBeside, earliestStart, workConservingBound, higherPriorityBound, eligible, latestStart}
 use Rattle.model.proofs.Bounds.{bound-up-to}
 use Rattle.model.specs.internal.Bounds.{TimedUpTo, Bounded}
-use Rattle.states.specs.Slots.{possiblyAt, certainlyAt, stateOf}
-use Rattle.edges.specs.Edges.{candidates, noLimit, limitWord, firstCertainlyReady, edgeOf}
+use Rattle.states.specs.internal.Slots.{possiblyAt, certainlyAt, stateOf}
+use Rattle.edges.specs.internal.Edges.{candidates, noLimit, limitWord, firstCertainlyReady, edgeOf}
 use Rattle.edges.specs.declared.Edge.the-variants.{NotEligible, Starts}
 use Rattle.edges.proofs.Folds.{smallestIn, smallest-listed}
 

@@ -11,7 +11,7 @@ use lib.Seq.{drop-cons}
 use borrow.Author.Tests.{ltb-false}
 use Rattle.model.specs.Folds.{largest, Limit, infinite, finite, smallest}
 use Rattle.model.specs.Folds as folds
-use Rattle.edges.specs.Edges.{listBelow, noLimit, limitWord}
+use Rattle.edges.specs.internal.Edges.{listBelow, noLimit, limitWord}
 use Rattle.edges.proofs.Listing.{fold-listed, fold-turn}
 
 -- ---- the largest: the larger of r and what is left of the n elements, from index j on, is the whole

@@ -13,7 +13,7 @@ use Rattle.model.specs.Folds.{ind}
 use Rattle.model.specs.Jobs.{Job}
 use Rattle.model.specs.States.{State}
 use Rattle.model.specs.Edges.{candidate}
-use Rattle.edges.specs.Edges.{listBelow, candidates}
+use Rattle.edges.specs.internal.Edges.{listBelow, candidates}
 
 -- what holds of each element, and of one put behind them, holds of each
 each-snoc : (P : ℕ → Type 0) (l : List ℕ) (x : ℕ) → ((t : ℕ) → t < length l → P (getD l t 0)) → P x

@@ -1,2 +1,2 @@
 -- Edges in words.
-pub mod Edges
+pub mod internal

@@ -7,7 +7,7 @@ use lib.Dec.{eqb}
 use borrow.Author.Tests.{ne-eqb, eqb-false}
 use Rattle.model.specs.States.{range}
 use Rattle.model.specs.Exploration.{hull}
-use Rattle.ranges.specs.Ranges.{rangeOf, widenedBy}
+use Rattle.ranges.specs.internal.Ranges.{rangeOf, widenedBy}
 use Rattle.ranges.specs.declared.FinishRange.{FinishRange}
 
 pub widened-hull : (r : FinishRange) (e f : ℕ) → 1 ≤ f → rangeOf (widenedBy r e f) ≡ hull (rangeOf r) (range e f)

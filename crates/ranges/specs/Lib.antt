@@ -1,2 +1,2 @@
 -- Ranges in words.
-pub mod Ranges
+pub mod internal

@@ -1,6 +1,6 @@
 // The range of finish times that was observed of a job so far, widened by an edge.
 ghost use mathlib.Core.Path.{_≡_};
-ghost use Rattle.ranges.specs.Ranges.{widenedBy};
+ghost use Rattle.ranges.specs.internal.Ranges.{widenedBy};
 use words::larger;
 use words::smaller;
 

@@ -11,7 +11,7 @@ use lib.Pow.{shl-exact}
 use Rattle.model.specs.Folds.{ind}
 use Rattle.model.proofs.Booleans.{ind-le}
 use Rattle.model.proofs.StartedSet.{half-power}
-use Rattle.states.specs.Slots.{inSet}
+use Rattle.states.specs.internal.Slots.{inSet}
 
 pub digit : (d : ℕ) → d < 2 → d ≡ ind (eqb d 1)
 digit zero h = refl

@@ -12,7 +12,7 @@ use Rattle.model.specs.States.{Range, empty, range, isRange, finishOf, started,
 use Rattle.model.proofs.StartedSet.{maskOf, half-power, mask-ones}
 use Rattle.words.proofs.Tabulate.{length-tabulate, getD-tabulate}
 use Rattle.states.proofs.Bits.{digit}
-use Rattle.states.specs.Slots.{earliestAt, latestAt, setOf, inSet, rangeAt, stateOf}
+use Rattle.states.specs.internal.Slots.{earliestAt, latestAt, setOf, inSet, rangeAt, stateOf}
 
 -- ---- a job
 

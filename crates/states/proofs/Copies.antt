@@ -5,7 +5,7 @@ use mathlib.Core.List.{List, _++_}
 use lib.ListN.{length, take}
 use lib.Seq.{length-take-le, take-at}
 use Rattle.model.specs.Exploration.{stateWords}
-use Rattle.states.specs.Slots.{setOf, stateOf}
+use Rattle.states.specs.internal.Slots.{setOf, stateOf}
 use Rattle.states.proofs.Frames.{take-set, take-state}
 
 module _ (m k : ℕ) (cur ys rest : List ℕ) (long : stateWords m k ≤ length cur) (copy : ys ≡ take (stateWords m k) cur) where

@@ -10,7 +10,7 @@ use Rattle.model.specs.States.{Range, State}
 use Rattle.model.specs.Exploration.{stateWords}
 use Rattle.words.proofs.Tabulate.{tabulate-ext}
 use Rattle.words.proofs.Parts.{get-before, get-after, part-take}
-use Rattle.states.specs.Slots.{setWords, possiblyAt, certainlyAt, earliestAt, latestAt, setOf, inSet, rangeAt, stateOf}
+use Rattle.states.specs.internal.Slots.{setWords, possiblyAt, certainlyAt, earliestAt, latestAt, setOf, inSet, rangeAt, stateOf}
 
 pub same-state : {s s′ : List Range} {p p′ c c′ : List ℕ} → s ≡ s′ → p ≡ p′ → c ≡ c′
     → _≡_ {A = State} (record { finish = s; possiblyFree = p; certainlyFree = c }) (record { finish = s′; possiblyFree = p′; certainlyFree = c′ })

@@ -17,9 +17,9 @@ use Rattle.model.proofs.StartedSet.{mask-same}
 use Rattle.words.proofs.Tabulate.{tabulate-ext}
 use Rattle.words.proofs.Parts.{part-length, part-get, part-same, part-before, part-after, length-put}
 use Rattle.words.specs.internal.Parts.{part}
-use Rattle.states.specs.Slots.{setWords, possiblyAt, certainlyAt, earliestAt, latestAt, setOf, inSet, rangeAt, stateOf}
+use Rattle.states.specs.internal.Slots.{setWords, possiblyAt, certainlyAt, earliestAt, latestAt, setOf, inSet, rangeAt, stateOf}
 use Rattle.states.proofs.Contents.{finish-length, set-mask}
-use Rattle.states.specs.Writing.{Widened}
+use Rattle.states.specs.internal.Writing.{Widened}
 use Rattle.states.proofs.Pairs.{getD-zip, zip-tabulate}
 use Rattle.states.proofs.Frames.{same-state, same-set}
 

@@ -18,9 +18,9 @@ use Rattle.model.proofs.StartedSet.{maskOf, mask-bit, mask-set, mask-fits}
 use Rattle.words.proofs.Tabulate.{tabulate-is}
 use Rattle.words.proofs.Parts.{part-same, part-before, part-after, part-set-before, part-set-after, length-put}
 use Rattle.words.specs.internal.Parts.{part}
-use Rattle.states.specs.Slots.{setWords, possiblyAt, certainlyAt, earliestAt, latestAt, setOf, inSet, rangeAt, stateOf}
+use Rattle.states.specs.internal.Slots.{setWords, possiblyAt, certainlyAt, earliestAt, latestAt, setOf, inSet, rangeAt, stateOf}
 use Rattle.states.proofs.Contents.{finish-length, finish-at, started-at, set-mask}
-use Rattle.states.specs.Writing.{withStart}
+use Rattle.states.specs.internal.Writing.{withStart}
 use Rattle.states.proofs.Frames.{same-state, same-range, put-set, put-finish}
 
 -- ---- the set with a job more

@@ -1,3 +1,2 @@
 -- States in words, and what writing them leaves.
-pub mod Slots
-pub mod Writing
+pub mod internal

@@ -4,7 +4,7 @@ ghost use Prim.Native.Nat.{_≤_};
 ghost use lib.ListN.{length};
 ghost use Rattle.model.specs.Limits.{mostCores, mostJobs};
 ghost use Rattle.model.specs.Exploration.{stateWords};
-ghost use Rattle.states.specs.Slots.{setOf, stateOf};
+ghost use Rattle.states.specs.internal.Slots.{setOf, stateOf};
 use crate::sizes::state_words;
 use words::copy;
 

@@ -5,7 +5,7 @@ ghost use lib.ListN.{length};
 ghost use Rattle.model.specs.Limits.{mostJobs};
 ghost use Rattle.model.specs.States.{earliest, latest, finishOf, started, level};
 ghost use Rattle.model.specs.Exploration.{stateWords};
-ghost use Rattle.states.specs.Slots.{setWords, setOf, inSet, stateOf};
+ghost use Rattle.states.specs.internal.Slots.{setWords, setOf, inSet, stateOf};
 use crate::sizes::SET_WORDS;
 
 // How many values a word has.

@@ -22,12 +22,12 @@ use Rattle.model.specs.internal.Bounds.{TimedUpTo, Bounded}
 use Rattle.jobs.specs.Rows.{jobsOf, Setting, word, leastExecutionAt, mostExecutionAt}
 use Rattle.jobs.proofs.Jobs.{length-jobs, field-of}
 use Rattle.states.specs.declared.starting.JobStart.{JobStart}
-use Rattle.states.specs.Writing.{afterStart}
+use Rattle.states.specs.internal.Writing.{afterStart}
 use Rattle.edges.specs.declared.Edge.the-variants.{NotEligible, Starts}
-use Rattle.edges.specs.Edges.{edgeOf, candidates}
+use Rattle.edges.specs.internal.Edges.{edgeOf, candidates}
 use Rattle.edges.proofs.Listing.{fold-listed, fold-turn}
-use Rattle.steps.specs.Observed.{observedOf}
-use Rattle.steps.specs.Progress.{goingIn, progressOf, Leaves, Follows}
+use Rattle.steps.specs.internal.Observed.{observedOf}
+use Rattle.steps.specs.internal.Progress.{goingIn, progressOf, Leaves, Follows}
 use Rattle.steps.specs.declared.shape.Shape.{Shape}
 use Rattle.steps.specs.declared.step.Step.{Step}
 use Rattle.steps.specs.declared.step.Step.the-variants.{Going, Full, Late}

@@ -11,8 +11,8 @@ use Rattle.model.specs.Limits.{mostJobs}
 use Rattle.model.specs.States.{empty}
 use Rattle.words.specs.Tabulate.{tabulate}
 use Rattle.words.proofs.Tabulate.{length-tabulate, getD-tabulate, tabulate-is}
-use Rattle.ranges.specs.Ranges.{rangeIn}
-use Rattle.steps.specs.Observed.{observedAt, observedOf, Observed}
+use Rattle.ranges.specs.internal.Ranges.{rangeIn}
+use Rattle.steps.specs.internal.Observed.{observedAt, observedOf, Observed}
 
 pub observed-at : (k : ℕ) (ws : List ℕ) (i : ℕ) → i < k → getD (observedOf k ws) i empty ≡ observedAt ws i
 unfolding observedOf

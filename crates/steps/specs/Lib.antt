@@ -1,3 +1,2 @@
 -- What the words say while a state is explored.
-pub mod Observed
-pub mod Progress
+pub mod internal

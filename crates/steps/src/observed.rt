@@ -4,7 +4,7 @@ ghost use Prim.Native.Nat.{_≤_, _<_};
 ghost use Rattle.model.specs.Limits.{mostJobs};
 ghost use Rattle.model.specs.States.{range};
 ghost use Rattle.model.specs.Exploration.{observed};
-ghost use Rattle.steps.specs.Observed.{observedOf, Observed};
+ghost use Rattle.steps.specs.internal.Observed.{observedOf, Observed};
 use model::limits::MOST_JOBS;
 use ranges::FinishRange;
 use ranges::widened_in_place;

@@ -11,9 +11,9 @@ use lib.ListN.{length, getD, set, length-set}
 use lib.Seq.{getD-set-same, getD-set-other}
 use borrow.Author.Count.{below-more}
 use Rattle.model.specs.Exploration.{mergeable}
-use Rattle.states.specs.Slots.{setOf, stateOf, slotOf}
+use Rattle.states.specs.internal.Slots.{setOf, stateOf, slotOf}
 use Rattle.states.proofs.Merges.{mergeable-set}
-use Rattle.store.specs.Half.{SetsFit, NoneMerges, buckets, bucketOf, bucketAt, Indexed, FirstOf}
+use Rattle.store.specs.internal.Half.{SetsFit, NoneMerges, buckets, bucketOf, bucketAt, Indexed, FirstOf}
 
 pub bucket-inside : (x : ℕ) → bucketOf x < buckets
 bucket-inside x = mod-lt x (omega arith)

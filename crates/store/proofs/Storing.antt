@@ -21,10 +21,10 @@ use Rattle.model.specs.Exploration.{mergeable, merge, stored, going, limited, s
 use Rattle.model.proofs.Bounds.{merge-bounded}
 use Rattle.words.proofs.Tabulate.{length-tabulate, getD-tabulate, tabulate-ext, tabulate-is, tabulate-snoc}
 use Rattle.words.proofs.Parts.{part-same, part-before, part-after}
-use Rattle.states.specs.Slots.{setOf, stateOf, slotOf, statesOf, Sound, AllSound}
+use Rattle.states.specs.internal.Slots.{setOf, stateOf, slotOf, statesOf, Sound, AllSound}
 use Rattle.states.proofs.Frames.{take-set, take-state}
 use Rattle.states.proofs.Merges.{mergeable-set}
-use Rattle.store.specs.Half.{levelOf, SoundAt, SetsFit, NoneMerges, FirstMerging, OthersKept}
+use Rattle.store.specs.internal.Half.{levelOf, SoundAt, SetsFit, NoneMerges, FirstMerging, OthersKept}
 use Rattle.store.specs.declared.Stored.{Stored}
 use Rattle.store.specs.declared.Stored.the-variants.{At, Full}
 

@@ -1,2 +1,2 @@
 -- A level of states in a half of the table.
-pub mod Half
+pub mod internal

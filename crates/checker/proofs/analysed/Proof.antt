@@ -5,7 +5,7 @@ use denote.Ref.{now}
 use borrow.Author.Needs.{needs}
 use Rattle.model.specs.Exploration.{analysis, capacity}
 use Rattle.jobs.specs.Rows.{jobsOf}
-use Rattle.analysis.specs.Outcomes.{verdictIn}
+use Rattle.analysis.specs.internal.Outcomes.{verdictIn}
 use Rattle.analysis.specs.declared.levels.Outcome.{Outcome}
 use Rattle.checker.specs.Checking.{resultOf}
 use Rattle.checker.proofs.Accepted.{all-finished}

@@ -9,7 +9,7 @@ use Rattle.model.specs.Jobs.{predecessors}
 use Rattle.model.specs.States.{latest, finishOf}
 use Rattle.model.specs.Edges.{certainlyReady}
 use Rattle.jobs.specs.Rows.{jobsOf}
-use Rattle.states.specs.Slots.{stateOf}
+use Rattle.states.specs.internal.Slots.{stateOf}
 use Rattle.edges.proofs.Folds.{LargestLeft, largest-next, largest-done}
 use Rattle.edges.proofs.certainly_ready.Statement.{statement}
 use Rattle.edges.proofs.certainly_ready.Tie as tie

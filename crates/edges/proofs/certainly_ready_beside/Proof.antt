@@ -10,7 +10,7 @@ use Rattle.model.specs.Jobs.{predecessors}
 use Rattle.model.specs.States.{latest, finishOf}
 use Rattle.model.specs.Edges.{certainlyReadyBeside}
 use Rattle.jobs.specs.Rows.{jobsOf}
-use Rattle.states.specs.Slots.{stateOf}
+use Rattle.states.specs.internal.Slots.{stateOf}
 use Rattle.edges.proofs.Folds.{LargestLeft, largest-next, largest-done}
 use Rattle.edges.proofs.certainly_ready_beside.Statement.{statement}
 use Rattle.edges.proofs.certainly_ready_beside.Tie as tie

@@ -8,7 +8,7 @@ use Rattle.model.specs.Limits.{latestTime}
 use Rattle.model.proofs.Bounds.{earliest-start-up-to, bound-up-to}
 use Rattle.jobs.specs.Rows.{jobsOf}
 use Rattle.jobs.proofs.Jobs.{length-jobs}
-use Rattle.states.specs.Slots.{stateOf}
+use Rattle.states.specs.internal.Slots.{stateOf}
 use Rattle.edges.proofs.Edges.{past-the-bound, held-back, starts}
 use Rattle.edges.proofs.edge_of.Statement.{statement}
 use Rattle.edges.proofs.edge_of.Tie as tie

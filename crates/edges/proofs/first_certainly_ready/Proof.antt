@@ -11,8 +11,8 @@ use Rattle.model.specs.Folds.{all}
 use Rattle.model.specs.Edges.{certainlyReady}
 use Rattle.jobs.specs.Rows.{jobsOf}
 use Rattle.jobs.proofs.Jobs.{length-jobs}
-use Rattle.states.specs.Slots.{stateOf}
-use Rattle.edges.specs.Edges.{limitWord}
+use Rattle.states.specs.internal.Slots.{stateOf}
+use Rattle.edges.specs.internal.Edges.{limitWord}
 use Rattle.edges.proofs.Listing.{listed-candidate}
 use Rattle.edges.proofs.Folds.{smallestIn, smallest-with}
 use Rattle.edges.proofs.Edges.{first-listed}

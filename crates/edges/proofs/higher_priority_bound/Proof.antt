@@ -15,8 +15,8 @@ use Rattle.model.proofs.Booleans.{and-right}
 use Rattle.model.specs.Edges.{certainlyReadyBeside}
 use Rattle.jobs.specs.Rows.{jobsOf}
 use Rattle.jobs.proofs.Jobs.{length-jobs}
-use Rattle.states.specs.Slots.{stateOf}
-use Rattle.edges.specs.Edges.{limitWord}
+use Rattle.states.specs.internal.Slots.{stateOf}
+use Rattle.edges.specs.internal.Edges.{limitWord}
 use Rattle.edges.proofs.Listing.{listed-candidate}
 use Rattle.edges.proofs.Folds.{smallestIn, smallest-with, smallest-kept, smallest-of-all}
 use Rattle.edges.proofs.Edges.{higher-listed}

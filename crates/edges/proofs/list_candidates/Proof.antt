@@ -9,8 +9,8 @@ use borrow.Author.Needs.{needs}
 use Rattle.model.specs.Jobs.{Job}
 use Rattle.model.specs.Edges.{candidate}
 use Rattle.model.proofs.Booleans.{ind-le}
-use Rattle.states.specs.Slots.{stateOf}
-use Rattle.edges.specs.Edges.{PredecessorSets, listBelow, candidates}
+use Rattle.states.specs.internal.Slots.{stateOf}
+use Rattle.edges.specs.internal.Edges.{PredecessorSets, listBelow, candidates}
 use Rattle.edges.proofs.Listing.{list-next}
 use Rattle.edges.proofs.Candidates.{candidate-of}
 use Rattle.edges.proofs.list_candidates.Statement.{statement}

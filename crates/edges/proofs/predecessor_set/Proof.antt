@@ -11,7 +11,7 @@ use Rattle.model.specs.Folds.{member}
 use Rattle.model.specs.Jobs.{predecessors}
 use Rattle.model.proofs.Booleans.{clash}
 use Rattle.jobs.specs.Rows.{jobsOf}
-use Rattle.states.specs.Slots.{inSet}
+use Rattle.states.specs.internal.Slots.{inSet}
 use Rattle.states.proofs.Bits.{in-none, shifted-one}
 use Rattle.edges.proofs.Candidates.{join-next, joined-all, joined-below}
 use Rattle.edges.proofs.predecessor_set.Statement.{statement}

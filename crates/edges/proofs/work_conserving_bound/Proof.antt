@@ -4,7 +4,7 @@ use native.Mathlib.Omega.{arith}
 use denote.Ref.{now}
 use borrow.Author.Needs.{needs}
 use Rattle.jobs.specs.Rows.{jobsOf}
-use Rattle.states.specs.Slots.{stateOf}
+use Rattle.states.specs.internal.Slots.{stateOf}
 use Rattle.edges.proofs.Edges.{first-certainly, bound-with, bound-without}
 use Rattle.edges.proofs.work_conserving_bound.Statement.{statement}
 use Rattle.edges.proofs.work_conserving_bound.Tie as tie

@@ -6,7 +6,7 @@ use lib.ListN.{length, length-set}
 use denote.Ref.{now}
 use borrow.Author.Needs.{needs}
 use Rattle.jobs.specs.Rows.{jobsOf}
-use Rattle.edges.specs.Edges.{PredecessorSets}
+use Rattle.edges.specs.internal.Edges.{PredecessorSets}
 use Rattle.edges.proofs.Candidates.{sets-next}
 use Rattle.edges.proofs.write_predecessor_sets.Statement.{statement}
 use Rattle.edges.proofs.write_predecessor_sets.Tie as tie

@@ -41,7 +41,7 @@ use denote.Triple.Table.{entered, cited}
 use denote.Triple.Walked.{says, Stays, stay-ref, stay-none, walkOf, AllGo, goes-none, goes-ref, Walks, ends-at, walked, walk-meets}
 use denote.Exit.{yes}
 use Rattle.ranges.specs.declared.FinishRange.{FinishRange}
-use Rattle.ranges.specs.Ranges.{widenedBy}
+use Rattle.ranges.specs.internal.Ranges.{widenedBy}
 use Rattle.ranges.proofs.FinishRange as T
 use Rattle.ranges.proofs.FinishRange.Laws as T′
 use Rattle.ranges.proofs.widened as widened

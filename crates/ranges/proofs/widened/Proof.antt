@@ -1,7 +1,7 @@
 -- `widened` meets its contract: with nothing observed the range is the edge's, else the hull of both. Assumes nothing.
 use borrow.Author.Needs.{needs}
 use borrow.Author.Tests.{eq-eqb, ne-eqb}
-use Rattle.ranges.specs.Ranges.{widenedBy}
+use Rattle.ranges.specs.internal.Ranges.{widenedBy}
 use Rattle.ranges.proofs.widened.Statement.{statement}
 use Rattle.ranges.proofs.widened.Tie as tie
 

@@ -7,8 +7,8 @@ use denote.Ref.{now}
 use borrow.Author.Count.{below-more}
 use Rattle.model.specs.Exploration.{mergeable, stateWords}
 use Rattle.words.proofs.Parts.{part-length}
-use Rattle.states.specs.Slots.{stateOf, slotOf}
-use Rattle.store.specs.Half.{NoneMerges}
+use Rattle.states.specs.internal.Slots.{stateOf, slotOf}
+use Rattle.store.specs.internal.Half.{NoneMerges}
 use Rattle.store.proofs.Storing.{slot-fits}
 use borrow.Author.Needs.{needs}
 use Rattle.store.proofs.find_merging.Statement.{statement}

@@ -6,7 +6,7 @@ use lib.ListN.{getD, length}
 use denote.Ref.{now}
 use borrow.Author.Needs.{needs}
 use Rattle.model.specs.Exploration.{stateWords}
-use Rattle.store.specs.Half.{bucketOf, bucketAt}
+use Rattle.store.specs.internal.Half.{bucketOf, bucketAt}
 use Rattle.store.proofs.Storing.{slot-fits}
 use Rattle.store.proofs.Indexing.{no-slot, other-bucket, head-is-first}
 use Rattle.store.proofs.first_of.Statement.{statement}

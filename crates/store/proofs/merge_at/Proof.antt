@@ -6,7 +6,7 @@ use lib.ListN.{length}
 use denote.Ref.{now}
 use Rattle.model.specs.Exploration.{stateWords}
 use Rattle.words.proofs.Parts.{part-length}
-use Rattle.states.specs.Slots.{setOf, stateOf}
+use Rattle.states.specs.internal.Slots.{setOf, stateOf}
 use Rattle.store.proofs.Storing.{slot-same, others-kept}
 use borrow.Author.Needs.{needs}
 use Rattle.store.proofs.merge_at.Statement.{statement}

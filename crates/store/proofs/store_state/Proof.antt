@@ -5,9 +5,9 @@ use native.Mathlib.Omega.{arith}
 use denote.Ref.{now}
 use borrow.Author.Needs.{needs}
 use Rattle.model.specs.Exploration.{stateWords}
-use Rattle.states.specs.Slots.{setOf}
+use Rattle.states.specs.internal.Slots.{setOf}
 use Rattle.states.proofs.Frames.{take-set}
-use Rattle.store.specs.Half.{NoneMerges, bucketOf, FirstOf}
+use Rattle.store.specs.internal.Half.{NoneMerges, bucketOf, FirstOf}
 use Rattle.store.proofs.Storing.{slot-fits, one-set, merged-outcome, added-outcome, full-outcome, sets-kept, slots-kept}
 use Rattle.store.proofs.Indexing.{bucket-inside, none-merges, indexed-same, indexed-more}
 use Rattle.store.proofs.store_state.Statement.{statement}

@@ -2,7 +2,7 @@
 use mathlib.Core.Path.{_≡_, ap, _∙_}
 use denote.Ref.{now}
 use borrow.Author.Needs.{needs}
-use Rattle.steps.specs.Observed.{observedWords}
+use Rattle.steps.specs.internal.Observed.{observedWords}
 use Rattle.analysis.proofs.LevelZero.{zeros, nothing-observed, no-room, first-inside, cleared-room, first-half, first-level, analysed}
 use Rattle.analysis.proofs.levels.analyse.Statement.{statement}
 use Rattle.analysis.proofs.levels.analyse.Tie as tie

@@ -5,7 +5,7 @@ use native.Mathlib.Omega.{arith}
 use lib.ListN.{length, length-replicate}
 use denote.Ref.{now}
 use borrow.Author.Needs.{needs}
-use Rattle.store.specs.Half.{buckets}
+use Rattle.store.specs.internal.Half.{buckets}
 use Rattle.analysis.proofs.Climbing.{Climbing, climbing-starts, climbing-ends, halves-apart, count-fits, climbing-goes-on, climbing-full, climbing-late}
 use Rattle.analysis.proofs.levels.climb_levels.Statement.{statement}
 use Rattle.analysis.proofs.levels.climb_levels.Tie as tie

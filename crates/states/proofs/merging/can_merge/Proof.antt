@@ -7,7 +7,7 @@ use denote.Ref.{now}
 use borrow.Author.Tests.{not-true, not-false}
 use Rattle.model.specs.Folds.{everyTwo}
 use Rattle.words.specs.internal.Parts.{part}
-use Rattle.states.specs.Slots.{possiblyAt, certainlyAt, setOf}
+use Rattle.states.specs.internal.Slots.{possiblyAt, certainlyAt, setOf}
 use Rattle.states.proofs.Merges.{other-set, one-set}
 use borrow.Author.Needs.{needs}
 use Rattle.states.proofs.merging.can_merge.Statement.{statement}

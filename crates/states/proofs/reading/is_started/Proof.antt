@@ -2,7 +2,7 @@
 use Prim.Native.Nat.{ℕ}
 use mathlib.Core.Path.{sym, ap, _∙_}
 use denote.Ref.{now}
-use Rattle.states.specs.Slots.{inSet}
+use Rattle.states.specs.internal.Slots.{inSet}
 use Rattle.states.proofs.Contents.{started-at}
 use borrow.Author.Needs.{needs}
 use Rattle.states.proofs.reading.is_started.Statement.{statement}

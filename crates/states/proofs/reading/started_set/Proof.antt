@@ -1,7 +1,7 @@
 -- `started_set` meets its contract. Assumes nothing.
 use mathlib.Core.Path.{refl}
 use native.Mathlib.Omega.{arith}
-use Rattle.states.specs.Slots.{setOf}
+use Rattle.states.specs.internal.Slots.{setOf}
 use borrow.Author.Needs.{needs}
 use Rattle.states.proofs.reading.started_set.Statement.{statement}
 use Rattle.states.proofs.reading.started_set.Tie as tie

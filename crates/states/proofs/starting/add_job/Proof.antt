@@ -5,7 +5,7 @@ use native.Mathlib.Omega.{arith}
 use lib.ListN.{length-set}
 use lib.Pow.{pow-mono}
 use denote.Ref.{now}
-use Rattle.states.specs.Slots.{setOf}
+use Rattle.states.specs.internal.Slots.{setOf}
 use Rattle.states.proofs.Bits.{shifted-one}
 use Rattle.states.proofs.Starts.{joined-fits, added-set, added-state}
 use borrow.Author.Needs.{needs}

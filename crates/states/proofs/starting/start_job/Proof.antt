@@ -10,7 +10,7 @@ use Rattle.model.specs.Exploration.{stateWords}
 use Rattle.model.specs.internal.Sorted.{Sorted}
 use Rattle.words.proofs.Parts.{part-length, length-put}
 use Rattle.words.specs.internal.Parts.{part}
-use Rattle.states.specs.Slots.{possiblyAt, certainlyAt, stateOf}
+use Rattle.states.specs.internal.Slots.{possiblyAt, certainlyAt, stateOf}
 use Rattle.states.proofs.Starts.{parts-sorted, upper-kept, updated-set, started-state}
 use borrow.Author.Needs.{needs}
 use Rattle.states.proofs.starting.start_job.Statement.{statement}

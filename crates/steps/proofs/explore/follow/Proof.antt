@@ -9,9 +9,9 @@ use Rattle.model.specs.Jobs.{job}
 use Rattle.model.specs.States.{Range}
 use Rattle.model.specs.Exploration.{limited, stored}
 use Rattle.jobs.specs.Rows.{jobsOf}
-use Rattle.states.specs.Slots.{stateOf, statesOf}
-use Rattle.states.specs.Writing.{afterStart}
-use Rattle.steps.specs.Observed.{observedOf}
+use Rattle.states.specs.internal.Slots.{stateOf, statesOf}
+use Rattle.states.specs.internal.Writing.{afterStart}
+use Rattle.steps.specs.internal.Observed.{observedOf}
 use Rattle.steps.proofs.Following.{inside, most-positive, fresh, takes-time, new-bounded, edge-late, edge-kept}
 use borrow.Author.Needs.{needs}
 use Rattle.steps.proofs.explore.follow.Statement.{statement}

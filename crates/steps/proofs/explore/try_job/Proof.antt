@@ -6,11 +6,11 @@ use denote.Ref.{now}
 use borrow.Author.Needs.{needs}
 use Rattle.model.specs.Limits.{latestTime, longestExecution}
 use Rattle.model.specs.Jobs.{job}
-use Rattle.states.specs.Slots.{statesOf}
-use Rattle.edges.specs.Edges.{edgeOf}
+use Rattle.states.specs.internal.Slots.{statesOf}
+use Rattle.edges.specs.internal.Edges.{edgeOf}
 use Rattle.edges.specs.declared.Edge.the-variants.{Starts}
-use Rattle.steps.specs.Observed.{observedOf}
-use Rattle.steps.specs.Progress.{jobsIn, stateIn}
+use Rattle.steps.specs.internal.Observed.{observedOf}
+use Rattle.steps.specs.internal.Progress.{jobsIn, stateIn}
 use Rattle.steps.proofs.Following.{edge-starts, no-edge, an-edge, finishes-fit, found}
 use Rattle.steps.proofs.explore.try_job.Statement.{statement}
 use Rattle.steps.proofs.explore.try_job.Tie as tie

@@ -7,9 +7,9 @@ use lib.ListN.{getD, length}
 use denote.Ref.{now}
 use borrow.Author.Needs.{needs}
 use Rattle.model.specs.Edges.{candidate}
-use Rattle.edges.specs.Edges.{Prepared}
+use Rattle.edges.specs.internal.Edges.{Prepared}
 use Rattle.edges.proofs.Listing.{listed-candidate}
-use Rattle.steps.specs.Progress.{jobsIn, stateIn, goingIn}
+use Rattle.steps.specs.internal.Progress.{jobsIn, stateIn, goingIn}
 use Rattle.steps.specs.declared.step.Step.{Step}
 use Rattle.steps.specs.declared.step.Step.the-variants.{Going}
 use Rattle.steps.proofs.Following.{Tried, tried-more, tried-all, tried-enough}

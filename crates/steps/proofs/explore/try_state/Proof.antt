@@ -4,8 +4,8 @@ use lib.ListN.{take}
 use lib.Seq.{length-take-le}
 use denote.Ref.{now}
 use borrow.Author.Needs.{needs}
-use Rattle.edges.specs.Edges.{candidates}
-use Rattle.steps.specs.Progress.{jobsIn, stateIn}
+use Rattle.edges.specs.internal.Edges.{candidates}
+use Rattle.steps.specs.internal.Progress.{jobsIn, stateIn}
 use Rattle.steps.proofs.explore.try_state.Statement.{statement}
 use Rattle.steps.proofs.explore.try_state.Tie as tie
 

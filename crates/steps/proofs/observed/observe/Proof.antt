@@ -8,9 +8,9 @@ use borrow.Author.Needs.{needs}
 use Rattle.model.specs.States.{Range, range}
 use Rattle.model.specs.Exploration.{hull}
 use Rattle.model.specs.Limits.{mostJobs}
-use Rattle.ranges.specs.Ranges.{rangeOf}
+use Rattle.ranges.specs.internal.Ranges.{rangeOf}
 use Rattle.ranges.proofs.Widening.{widened-hull}
-use Rattle.steps.specs.Observed.{observedOf}
+use Rattle.steps.specs.internal.Observed.{observedOf}
 use Rattle.steps.proofs.Ranges.{observed-at, observed-set, observed-kept}
 use Rattle.steps.proofs.observed.observe.Statement.{statement}
 use Rattle.steps.proofs.observed.observe.Tie as tie

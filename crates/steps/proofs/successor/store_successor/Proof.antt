@@ -10,12 +10,12 @@ use Rattle.model.specs.Limits.{latestTime}
 use Rattle.model.specs.States.{Range, State}
 use Rattle.model.specs.Exploration.{full, limited, stored, stateWords}
 use Rattle.model.specs.internal.Bounds.{Bounded}
-use Rattle.states.specs.Slots.{setOf, stateOf, statesOf, Sound}
-use Rattle.states.specs.Writing.{afterStart}
+use Rattle.states.specs.internal.Slots.{setOf, stateOf, statesOf, Sound}
+use Rattle.states.specs.internal.Writing.{afterStart}
 use Rattle.states.proofs.Starts.{joined-fits}
-use Rattle.store.specs.Half.{levelOf, SoundAt, IndexedAt}
+use Rattle.store.specs.internal.Half.{levelOf, SoundAt, IndexedAt}
 use Rattle.store.specs.declared.Stored.{Stored}
-use Rattle.steps.specs.Progress.{stateIn}
+use Rattle.steps.specs.internal.Progress.{stateIn}
 use Rattle.steps.proofs.successor.store_successor.Statement.{statement}
 use Rattle.steps.proofs.successor.store_successor.Tie as tie
 

@@ -5,7 +5,7 @@ use native.Mathlib.Omega.{arith}
 use borrow.Author.Needs.{needs}
 use Rattle.model.specs.States.{State, started}
 use Rattle.model.specs.internal.Sorted.{Ordered}
-use Rattle.states.specs.Writing.{afterStart}
+use Rattle.states.specs.internal.Writing.{afterStart}
 use Rattle.steps.proofs.successor.write_successor.Statement.{statement}
 use Rattle.steps.proofs.successor.write_successor.Tie as tie
 

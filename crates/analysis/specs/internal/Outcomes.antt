@@ -3,7 +3,7 @@ use Prim.Native.Nat.{ℕ, _+_, _*_, _≤_}
 use mathlib.Core.Logic.{_⊎_}
 use mathlib.Core.List.{List}
 use Rattle.model.specs.Exploration.{Verdict, accepted, refused, late, stateWords}
-use Rattle.steps.specs.Observed.{observedOf}
+use Rattle.steps.specs.internal.Observed.{observedOf}
 use Rattle.steps.specs.declared.shape.Shape.{Shape}
 use Rattle.analysis.specs.declared.levels.Outcome.{Outcome}
 use Rattle.analysis.specs.declared.levels.Outcome.the-variants.{Accepted, Full, Late}

@@ -12,7 +12,7 @@ use Rattle.model.specs.Edges.{candidate, certainlyReady, earliestStart, eligibl
 use Rattle.model.specs.Exploration.{stateWords}
 use Rattle.model.specs.internal.Bounds.{Bounded}
 use Rattle.jobs.specs.Rows.{jobsOf, Setting}
-use Rattle.states.specs.Slots.{inSet, stateOf}
+use Rattle.states.specs.internal.Slots.{inSet, stateOf}
 use Rattle.edges.specs.declared.Edge.{Edge}
 use Rattle.edges.specs.declared.Edge.the-variants.{NotEligible, Starts}
 

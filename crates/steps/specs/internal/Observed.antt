@@ -6,7 +6,7 @@ use lib.ListN.{getD, length}
 use Rattle.model.specs.Limits.{mostJobs}
 use Rattle.model.specs.States.{Range}
 use Rattle.words.specs.Tabulate.{tabulate}
-use Rattle.ranges.specs.Ranges.{rangeIn}
+use Rattle.ranges.specs.internal.Ranges.{rangeIn}
 
 abbrev pub observedWords : ℕ
 observedWords = 2 * mostJobs

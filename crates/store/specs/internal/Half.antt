@@ -7,7 +7,7 @@ use lib.ListN.{getD, length}
 use Rattle.model.specs.Jobs.{Job}
 use Rattle.model.specs.States.{Range, State, level}
 use Rattle.model.specs.Exploration.{mergeable, Exploration, going, full, stateWords}
-use Rattle.states.specs.Slots.{setOf, stateOf, slotOf, statesOf, AllSound}
+use Rattle.states.specs.internal.Slots.{setOf, stateOf, slotOf, statesOf, AllSound}
 use Rattle.store.specs.declared.Stored.{Stored}
 use Rattle.store.specs.declared.Stored.the-variants.{At, Full}
 

@@ -10,9 +10,9 @@ use Rattle.model.specs.Edges.{eligible, earliestStart, earliestFinish, latestFi
 use Rattle.model.specs.Exploration.{Exploration, going, full, miss, stateWords}
 use Rattle.jobs.specs.Rows.{jobsOf, Setting}
 use Rattle.states.specs.declared.starting.JobStart.{JobStart}
-use Rattle.states.specs.Slots.{stateOf, statesOf, Sound, AllSound}
-use Rattle.store.specs.Half.{Indexed}
-use Rattle.steps.specs.Observed.{observedOf, Observed}
+use Rattle.states.specs.internal.Slots.{stateOf, statesOf, Sound, AllSound}
+use Rattle.store.specs.internal.Half.{Indexed}
+use Rattle.steps.specs.internal.Observed.{observedOf, Observed}
 use Rattle.steps.specs.declared.shape.Shape.{Shape}
 use Rattle.steps.specs.declared.step.Step.{Step}
 use Rattle.steps.specs.declared.step.Step.the-variants.{Going, Full, Late}
