@@ -25,11 +25,11 @@ use Rattle.store.proofs.Storing.{slot-fits}
 use Rattle.store.proofs.Indexing.{nothing-indexed}
 use Rattle.steps.specs.internal.Observed.{observedOf, Observed}
 use Rattle.steps.specs.internal.Progress.{progressOf, Half, Target, HalfAt, Leaves}
-use Rattle.analysis.specs.internal.Outcomes.{Halves}
+use Rattle.analysis.specs.internal.Answers.{Halves}
 use Rattle.steps.specs.declared.shape.Shape.{Shape}
-use Rattle.steps.specs.declared.step.Step.{Step}
-use Rattle.steps.specs.declared.step.Step.the-variants.{Going}
-use Rattle.steps.proofs.step.Step.{the-type}
+use Rattle.steps.specs.declared.progress.Progress.{Progress}
+use Rattle.steps.specs.declared.progress.Progress.the-variants.{Going}
+use Rattle.steps.proofs.progress.Progress.{the-type}
 use Rattle.steps.proofs.Following.{Stopped, jobs-stopped, ended}
 use Rattle.analysis.proofs.Halves.{put-put, source-kept}
 
@@ -118,7 +118,7 @@ module _ {rows : List ℕ} {k m cap from to n : ℕ} {table₀ seen₀ table see
   Next c = tryStates js cap (statesOf m k (part from size table₀) n) (going [] (observedOf k seen₀) c)
 
   -- what the level's end leaves, and that the rest of the table is as it was
-  abbrev Built : Step → List ℕ → List ℕ → List ℕ → Type 0
+  abbrev Built : Progress → List ℕ → List ℕ → List ℕ → Type 0
   Built r table seen heads = Leaves js (shaped k m cap) Next r (part to size table) seen heads × (table ≡ putMid to size table₀ (part to size table))
 
   -- state j lies in the half that is read
@@ -175,7 +175,7 @@ module _ {rows : List ℕ} {k m cap from to n : ℕ} {table₀ seen₀ table see
             bounded = subst (Bounded js latestTime) (sym in-hand) (s .bounded);
           }
 
-      module _ {r : Step} {half seen′ heads′ : List ℕ} (kept : length half ≡ length (part to span table))
+      module _ {r : Progress} {half seen′ heads′ : List ℕ} (kept : length half ≡ length (part to span table))
           (leaves : Leaves js (shaped k m cap) (λ c. tryJobs js cap (stateOf m k cur) k (going (statesOf m k (part to span table) built) (observedOf k seen) c)) r half seen′ heads′) where
         abbrev table′ : List ℕ
         table′ = putMid to span table half
@@ -216,12 +216,12 @@ module _ {rows : List ℕ} {k m cap from to n : ℕ} {table₀ seen₀ table see
               given = before .given;
               upto = omega arith;
               long = table-long;
-              target = subst (λ (z : List ℕ). Target js m k cap z heads′ count) (sym put) (subst (λ (z : Step). HalfAt js m k cap z half heads′) e (leaves .sound));
+              target = subst (λ (z : List ℕ). Target js m k cap z heads′ count) (sym put) (subst (λ (z : Progress). HalfAt js m k cap z half heads′) e (leaves .sound));
               frame = framed;
               observed = leaves .observed;
               rest = λ c.
                   ap (λ (z : List ℕ). tryStates js cap (tabulate source (j + 1) (n - (j + 1))) (going (statesOf m k z count) (observedOf k seen′) c)) put
-                  ∙ ap (λ (z : Step). tryStates js cap (tabulate source (j + 1) (n - (j + 1))) (progressOf m k (observedOf k seen′) c z half)) (sym e) ∙ after c;
+                  ∙ ap (λ (z : Progress). tryStates js cap (tabulate source (j + 1) (n - (j + 1))) (progressOf m k (observedOf k seen′) c z half)) (sym e) ∙ after c;
             }
 
         stays : (x : Exploration) → Stopped x → (c : ℕ) → progressOf m k (observedOf k seen′) c r half ≡ x → x ≡ Next c

@@ -9,7 +9,7 @@ use lib.Seq.{ext-getD, take-at, length-take-le, drop-drop}
 use borrow.Rule.Slice.PartMut.{putMid}
 use Rattle.words.proofs.Parts.{part-length, part-get, part-before, part-after, drop-after}
 use Rattle.words.specs.internal.Parts.{part}
-use Rattle.analysis.specs.internal.Outcomes.{Halves}
+use Rattle.analysis.specs.internal.Answers.{Halves}
 
 -- a part of a part
 pub part-part : (a n b m : ℕ) (t : List ℕ) → b + m ≤ n → a + n ≤ length t → part b m (part a n t) ≡ part (a + b) m t

@@ -28,7 +28,7 @@ use Rattle.states.proofs.Frames.{same-state}
 use Rattle.steps.specs.internal.Observed.{observedWords, observedAt, observedOf, Observed}
 use Rattle.steps.specs.internal.Progress.{Half}
 use Rattle.analysis.proofs.Halves.{part-part}
-use Rattle.analysis.proofs.Climbing.{stops}
+use Rattle.analysis.proofs.LevelsBuilt.{stops}
 
 abbrev pub zeros : ℕ → List ℕ
 zeros n = replicate n 0
@@ -108,15 +108,15 @@ module _ (rows : List ℕ) (k m : ℕ) (table : List ℕ) {w : ℕ} (wide : w �
   cap = length table / (2 * w)
 
   -- the analysis gives this answer, and words past both halves are as they were
-  abbrev Analysed : Verdict → List ℕ → List ℕ → Type 0
-  Analysed a t seen =
+  abbrev Answered : Verdict → List ℕ → List ℕ → Type 0
+  Answered a t seen =
       (a ≡ analysis js m (capacity (length table) m k))
       × (Observed k seen × (drop (2 * (capacity (length table) m k * width)) t ≡ drop (2 * (capacity (length table) m k * width)) table))
 
   by-capacity : cap ≡ capacity (length table) m k
   by-capacity = ap (λ (z : ℕ). length table / (2 * z)) wide
 
-  pub no-room : {seen : List ℕ} → Observed k seen → cap ≡ 0 → Analysed (refused 13 0) table seen
+  pub no-room : {seen : List ℕ} → Observed k seen → cap ≡ 0 → Answered (refused 13 0) table seen
   unfolding explored limited
   no-room o e =
       let n : capacity (length table) m k ≡ 0 = sym by-capacity ∙ e in
@@ -187,8 +187,8 @@ module _ (rows : List ℕ) (k m : ℕ) (table : List ℕ) {w : ℕ} (wide : w �
           (ap (λ (σ : State). going (σ ∷ []) (observedOf k seen) 1) (ap (stateOf m k) slot ∙ zeros-state m k)
           ∙ ap (λ (l : List Range). going (initial m k ∷ []) l 1) (ap (observedOf k) none ∙ zeros-observed k observedWords))
 
-      pub analysed : {a : Verdict} {seen : List ℕ} (t : List ℕ) → a ≡ analysis js m cap → Observed k seen → drop (2 * (cap * width)) t ≡ drop (2 * (cap * width)) cleared → Analysed a t seen
-      analysed {a} {seen} t e o d =
+      pub answered : {a : Verdict} {seen : List ℕ} (t : List ℕ) → a ≡ analysis js m cap → Observed k seen → drop (2 * (cap * width)) t ≡ drop (2 * (cap * width)) cleared → Answered a t seen
+      answered {a} {seen} t e o d =
           let p : drop (2 * (cap * width)) t ≡ drop (2 * (cap * width)) table =
           d ∙ ap (drop (2 * (cap * width))) sized ∙ drop-after 0 width table first inside first-long (2 * (cap * width)) (omega (arith, one-fits)) in
           subst (λ (z : ℕ). (a ≡ analysis js m z) × (Observed k seen × (drop (2 * (z * width)) t ≡ drop (2 * (z * width)) table))) by-capacity (e, (o, p))

@@ -1,5 +1,5 @@
 -- Laws that belong to no one function.
 pub mod Halves
 pub mod Building
-pub mod Climbing
+pub mod LevelsBuilt
 pub mod LevelZero

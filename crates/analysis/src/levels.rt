@@ -12,20 +12,20 @@ ghost use Rattle.edges.specs.internal.Edges.{PredecessorSets};
 ghost use Rattle.store.specs.internal.Half.{buckets};
 ghost use Rattle.steps.specs.internal.Observed.{observedWords, observedOf, Observed};
 ghost use Rattle.steps.specs.internal.Progress.{jobsIn, goingIn, Half, Leaves};
-ghost use Rattle.analysis.specs.internal.Outcomes.{Halves, halfWords, verdictIn};
+ghost use Rattle.analysis.specs.internal.Answers.{Halves, halfWords, verdictIn};
 use edges::write_predecessor_sets;
 use model::limits::MOST_JOBS;
 use states::copying::load_state;
 use states::sizes::MOST_STATE_WORDS;
 use states::sizes::state_words;
 use steps::explore::try_state;
+use steps::progress::Progress;
 use steps::shape::Shape;
-use steps::step::Step;
 use store::BUCKETS;
 use words::clear;
 
 // What the analysis ends with.
-pub enum Outcome {
+pub enum Analysed {
     // Every job meets its deadline; so many states were stored.
     Accepted(u64),
     // A half has no room for a state of this level.
@@ -50,7 +50,7 @@ pub fn build_level(
     sets: &[u64],
     shape: Shape,
     level: Level,
-) -> Step
+) -> Progress
     requires { ⌜ Setting (now rows) (shape .jobs) (shape .cores) × (shape .jobs ≤ length (now sets))
         × PredecessorSets (jobsIn shape (now rows)) (shape .jobs) (now sets) ⌝ }
     requires { ⌜ Halves (length (now table)) (halfWords shape) (level .from) (level .to)
@@ -79,7 +79,7 @@ pub fn build_level(
         let at = from + j * w;
         let next = at + w;
         load_state(&mut cur, &table[at..next], m, k);
-        let step = try_state(
+        let progress = try_state(
             &mut table[to..end],
             seen,
             heads,
@@ -89,17 +89,17 @@ pub fn build_level(
             &cur,
             shape,
         );
-        let Step::Going(x) = step else {
-            return step;
+        let Progress::Going(x) = progress else {
+            return progress;
         };
         built = x;
         j += 1;
     }
-    Step::Going(built)
+    Progress::Going(built)
 }
 
 // Builds level after level, from level 0 in the lower half on: the halves change roles. The index needs no clearing between levels.
-pub fn climb_levels(table: &mut [u32], seen: &mut [u32], rows: &[u32], shape: Shape) -> Outcome
+pub fn build_levels(table: &mut [u32], seen: &mut [u32], rows: &[u32], shape: Shape) -> Analysed
     requires { ⌜ Setting (now rows) (shape .jobs) (shape .cores) × (2 * halfWords shape ≤ length (now table))
         × Half (jobsIn shape (now rows)) (shape .cores) (shape .jobs) (shape .capacity) (part 0 (halfWords shape) (now table)) 1 × Observed (shape .jobs) (now seen) ⌝ }
     requires { ⌜ goingIn shape (part 0 (halfWords shape) (now table)) 1 (now seen) 1 ≡ explored (jobsIn shape (now rows)) (shape .cores) (shape .capacity) 0 ⌝ }
@@ -126,15 +126,15 @@ pub fn climb_levels(table: &mut [u32], seen: &mut [u32], rows: &[u32], shape: Sh
             to,
         };
         match build_level(table, seen, &mut heads, rows, &sets, shape, level) {
-            Step::Going(x) => {
+            Progress::Going(x) => {
                 n = x;
                 count += x as u64;
             }
-            Step::Full(l) => {
-                return Outcome::Full(l);
+            Progress::Full(l) => {
+                return Analysed::Full(l);
             }
-            Step::Late(i, e, f) => {
-                return Outcome::Late(i, e, f);
+            Progress::Late(i, e, f) => {
+                return Analysed::Late(i, e, f);
             }
         }
         let t = from;
@@ -142,11 +142,11 @@ pub fn climb_levels(table: &mut [u32], seen: &mut [u32], rows: &[u32], shape: Sh
         to = t;
         depth += 1;
     }
-    Outcome::Accepted(count)
+    Analysed::Accepted(count)
 }
 
 // The analysis of k jobs on m cores: each half of the table has room for as many states as it takes whole.
-pub fn analyse(table: &mut [u32], seen: &mut [u32], rows: &[u32], k: usize, m: usize) -> Outcome
+pub fn analyse(table: &mut [u32], seen: &mut [u32], rows: &[u32], k: usize, m: usize) -> Analysed
     requires { ⌜ Setting (now rows) k m × (length (now seen) ≡ observedWords) ⌝ }
     ensures { λ r. ⌜ verdictIn k r (now (seen .exit)) ≡ analysis (jobsOf (now (rows .entry)) k) m (capacity (length (now (table .entry))) m k) ⌝ }
     ensures { λ _. ⌜ Observed k (now (seen .exit)) ⌝ }
@@ -157,7 +157,7 @@ pub fn analyse(table: &mut [u32], seen: &mut [u32], rows: &[u32], k: usize, m: u
     let w = state_words(m, k);
     let cap = table.len() / (2 * w);
     if cap == 0 {
-        return Outcome::Full(0);
+        return Analysed::Full(0);
     }
     clear(&mut table[0..w]);
     let shape = Shape {
@@ -165,5 +165,5 @@ pub fn analyse(table: &mut [u32], seen: &mut [u32], rows: &[u32], k: usize, m: u
         jobs: k,
         capacity: cap,
     };
-    climb_levels(table, seen, rows, shape)
+    build_levels(table, seen, rows, shape)
 }

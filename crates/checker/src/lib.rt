@@ -12,7 +12,7 @@ ghost use Rattle.jobs.specs.Rows.{jobsOf as jobsIn, Setting};
 ghost use Rattle.checker.specs.Checking.{verdict, levelWords, usedWords, refusing, checkedOf, toldOf, toldFor, boundsOf};
 ghost use Rattle.checker.specs.Finished.{analysedOf};
 use crate::accepting::accepting;
-use analysis::levels::Outcome;
+use analysis::levels::Analysed;
 use analysis::levels::analyse;
 use format::BELL_TABLE;
 use format::JOB_TABLE;
@@ -69,9 +69,9 @@ fn analysed(rows: &[u32; JOB_TABLE], k: usize, m: usize, table: &mut [u32]) -> C
     let mut seen = [0u32; OBSERVED_WORDS];
     let outcome = analyse(table, &mut seen, rows, k, m);
     match outcome {
-        Outcome::Accepted(states) => accepting(rows, k, &seen, states),
-        Outcome::Full(level) => refused(Answer::Refused(FULL, level as usize)),
-        Outcome::Late(job, earliest, latest) => refused(Answer::Late(job, earliest, latest)),
+        Analysed::Accepted(states) => accepting(rows, k, &seen, states),
+        Analysed::Full(level) => refused(Answer::Refused(FULL, level as usize)),
+        Analysed::Late(job, earliest, latest) => refused(Answer::Late(job, earliest, latest)),
     }
 }
 

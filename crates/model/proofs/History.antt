@@ -24,17 +24,17 @@ entry h k = getD h k unstarted
 
 abbrev pub hasStarted : Entry → Bool
 hasStarted unstarted = false
-hasStarted (ran s f) = true
+hasStarted (ran a f) = true
 
 -- its status once the steps at t are done
 abbrev pub view : ℕ → Entry → Status
 view t unstarted = waiting
-view t (ran s f) = statusAt s f t
+view t (ran a f) = statusAt a f t
 
 -- it started, and finishes after t
 abbrev pub runsPast : ℕ → Entry → Bool
 runsPast t unstarted = false
-runsPast t (ran s f) = ltb t f
+runsPast t (ran a f) = ltb t f
 
 abbrev pub busy : ℕ → List Entry → ℕ
 busy t h = count (runsPast t) h
@@ -42,22 +42,22 @@ busy t h = count (runsPast t) h
 -- it started, and finishes by t
 abbrev pub Finished : ℕ → Entry → Type 0
 Finished t unstarted = ⊥
-Finished t (ran s f) = f ≤ t
+Finished t (ran a f) = f ≤ t
 
 -- if it started, then by t, and it takes time
 abbrev pub Begun : ℕ → Entry → Type 0
 Begun t unstarted = Unit {0}
-Begun t (ran s f) = (s ≤ t) × (s < f)
+Begun t (ran a f) = (a ≤ t) × (a < f)
 
 -- ---- what a view shows
 
-view-begun : (t s f : ℕ) → s ≤ t → statusAt s f t ≡ cond (ltb t f) (running f) done
+view-begun : (t a f : ℕ) → a ≤ t → statusAt a f t ≡ cond (ltb t f) (running f) done
 unfolding statusAt
-view-begun t s f h = rw (le-ltb t s h) refl
+view-begun t a f h = rw (le-ltb t a h) refl
 
 view-waiting : (t : ℕ) (e : Entry) → Begun t e → isWaiting (view t e) ≡ not (hasStarted e)
 view-waiting t unstarted b = refl
-view-waiting t (ran s f) b = rw (view-begun t s f (b .0)) (go (ltb t f))
+view-waiting t (ran a f) b = rw (view-begun t a f (b .0)) (go (ltb t f))
   where
     go : (c : Bool) → isWaiting (cond c (running f) done) ≡ false
     go true = refl
@@ -65,7 +65,7 @@ view-waiting t (ran s f) b = rw (view-begun t s f (b .0)) (go (ltb t f))
 
 view-done : (t : ℕ) (e : Entry) → Begun t e → isDone (view t e) ≡ true → Finished t e
 view-done t unstarted b d = absurd (false≢true d)
-view-done t (ran s f) b d = go (ltb t f) refl (ap isDone (sym (view-begun t s f (b .0))) ∙ d)
+view-done t (ran a f) b d = go (ltb t f) refl (ap isDone (sym (view-begun t a f (b .0))) ∙ d)
   where
     go : (c : Bool) → ltb t f ≡ c → isDone (cond c (running f) done) ≡ true → f ≤ t
     go true q e = absurd (false≢true e)
@@ -73,7 +73,7 @@ view-done t (ran s f) b d = go (ltb t f) refl (ap isDone (sym (view-begun t s f 
 
 finished-done : (t : ℕ) (e : Entry) → Begun t e → Finished t e → isDone (view t e) ≡ true
 finished-done t unstarted b x = absurd x
-finished-done t (ran s f) b x = rw (view-begun t s f (b .0), le-ltb t f x) refl
+finished-done t (ran a f) b x = rw (view-begun t a f (b .0), le-ltb t f x) refl
 
 -- ---- from one moment to the next
 
@@ -92,7 +92,7 @@ Passes t e = (finished (suc t) (view t e) ≡ view (suc t) e) × (ind (finishesA
 -- the view follows the dispatch rule, and the cores freed are those of the jobs that finish
 pub view-passes : (t : ℕ) (e : Entry) → Begun t e → Passes t e
 view-passes t unstarted b = (refl, refl)
-view-passes t (ran s f) b = rw (view-begun t s f (b .0), view-begun (suc t) s f (omega (arith, b .0))) (go (finishes t f))
+view-passes t (ran a f) b = rw (view-begun t a f (b .0), view-begun (suc t) a f (omega (arith, b .0))) (go (finishes t f))
   where
     go : Finishes t f
         → (finished (suc t) (cond (ltb t f) (running f) done) ≡ cond (ltb (suc t) f) (running f) done)
@@ -115,8 +115,8 @@ fresh-idle : (u : ℕ) (x : Entry) → hasStarted x ≡ false → ind (runsPast 
 fresh-idle u unstarted e = refl
 fresh-idle u (ran a b) e = absurd (true≢false e)
 
-pub busy-start : (u : ℕ) (h : List Entry) (i s f : ℕ) → i < length h → hasStarted (entry h i) ≡ false → busy u (set h i (ran s f)) ≡ busy u h + ind (ltb u f)
-busy-start u h i s f b e = omega (arith, count-set (runsPast u) h i (ran s f) unstarted b, fresh-idle u (entry h i) e)
+pub busy-start : (u : ℕ) (h : List Entry) (i a f : ℕ) → i < length h → hasStarted (entry h i) ≡ false → busy u (set h i (ran a f)) ≡ busy u h + ind (ltb u f)
+busy-start u h i a f b e = omega (arith, count-set (runsPast u) h i (ran a f) unstarted b, fresh-idle u (entry h i) e)
 
 -- ---- readiness
 

@@ -67,15 +67,15 @@ starts-later u t f h = rw (lt-ltb u t h) refl
 
 module _ (js : List Job) (m : ℕ) (s : Scenario) (bounds : List Range) (levels : ℕ → List State) where
   -- what holds for good of a job that started at a and finishes at f
-  pub record Fate (k a f : ℕ) : Type 0 where
+  pub record RanInBounds (k a f : ℕ) : Type 0 where
     pub released : s .release k ≤ a
     pub executed : f ≡ a + s .execution k
     pub bounded : Contains (getD bounds k empty) f
     pub timely : f ≤ job js k .deadline
 
-  abbrev pub Fated : ℕ → Entry → Type 0
-  Fated k unstarted = Unit {0}
-  Fated k (ran a f) = Fate k a f
+  abbrev pub EntryInBounds : ℕ → Entry → Type 0
+  EntryInBounds k unstarted = Unit {0}
+  EntryInBounds k (ran a f) = RanInBounds k a f
 
   -- the predecessors of a started job had finished by its start
   abbrev pub Served : List Entry → ℕ → Entry → Type 0
@@ -88,7 +88,7 @@ module _ (js : List Job) (m : ℕ) (s : Scenario) (bounds : List Range) (levels 
     pub begun : (k : ℕ) → Begun t (entry h k)
     pub idle : Idle js m s p h
     pub covered : Any (λ σ. Covers m σ t h) (levels (count hasStarted h))
-    pub fated : (k : ℕ) → Fated k (entry h k)
+    pub in-bounds : (k : ℕ) → EntryInBounds k (entry h k)
     pub served : (k : ℕ) → Served h k (entry h k)
 
   abbrev Past : ℕ → List Entry → Type 0
@@ -139,7 +139,7 @@ module _ (js : List Job) (m : ℕ) (s : Scenario) (bounds : List Range) (levels 
 
       -- some state of the level covers the run: its edge for i is covered too
       abbrev Started : Type 0
-      Started = Fate i t f × Any (λ σ. Covers m σ t new) (levels (suc (count hasStarted h)))
+      Started = RanInBounds i t f × Any (λ σ. Covers m σ t new) (levels (suc (count hasStarted h)))
 
       started : Started
       started =
@@ -168,7 +168,7 @@ module _ (js : List Job) (m : ℕ) (s : Scenario) (bounds : List Range) (levels 
             begun = set-each (λ k x. Begun t x) h i (ran t f) unstarted in-history (inv .begun) (omega arith, takes-time);
             idle = λ u l j b r. omega (arith, busy-new u, inv .idle u l j b (ready-back u j l r));
             covered = rw one-more (started .1);
-            fated = set-each Fated h i (ran t f) unstarted in-history (inv .fated) (started .0);
+            in-bounds = set-each EntryInBounds h i (ran t f) unstarted in-history (inv .in-bounds) (started .0);
             served = set-each (Served new) h i (ran t f) unstarted in-history (λ k. on k (entry h k) (inv .served k)) (λ w q. still-finished t w (is .served w q));
           }
         where
@@ -196,7 +196,7 @@ module _ (js : List Job) (m : ℕ) (s : Scenario) (bounds : List Range) (levels 
           begun = inv .begun;
           idle = below-suc (λ u. (j : ℕ) → j < length js → Ready js s u h j → m ≤ busy u h) t (inv .idle) g;
           covered = inv .covered;
-          fated = inv .fated;
+          in-bounds = inv .in-bounds;
           served = inv .served;
         }
 
@@ -226,14 +226,14 @@ module _ (js : List Job) (m : ℕ) (s : Scenario) (bounds : List Range) (levels 
 
     -- ---- the whole run
 
-    next-dawn : (t : ℕ) (h : List Entry) → Inv (suc t) t h → Inv (suc t) (suc t) h
-    next-dawn t h inv =
+    at-next-moment : (t : ℕ) (h : List Entry) → Inv (suc t) t h → Inv (suc t) (suc t) h
+    at-next-moment t h inv =
         record {
           all-jobs = inv .all-jobs;
           begun = λ k. begun-later t (entry h k) (inv .begun k);
           idle = inv .idle;
           covered = any-map (levels (count hasStarted h)) (λ σ c. record { finishes = c .finishes; possibly = λ u l. c .possibly u (omega arith); certainly = c .certainly }) (inv .covered);
-          fated = inv .fated;
+          in-bounds = inv .in-bounds;
           served = inv .served;
         }
 
@@ -248,14 +248,14 @@ module _ (js : List Job) (m : ℕ) (s : Scenario) (bounds : List Range) (levels 
           certainly = λ u l. omega (arith, count-zeros u m, count-none (runsPast u) (length js) unstarted refl);
         }
 
-    first-dawn : Inv 0 0 none-started
-    first-dawn =
+    at-moment-zero : Inv 0 0 none-started
+    at-moment-zero =
         record {
           all-jobs = length-replicate (length js) unstarted;
           begun = λ k. rw (getD-same (length js) k unstarted) tt;
           idle = λ u l. absurd (not-suc-le-zero l);
           covered = rw (count-none hasStarted (length js) unstarted refl) (any-map (levels 0) (λ τ c. covers-wider m τ (initial m (length js)) 0 none-started c covers-initial) (coverage .begins));
-          fated = λ k. rw (getD-same (length js) k unstarted) tt;
+          in-bounds = λ k. rw (getD-same (length js) k unstarted) tt;
           served = λ k. rw (getD-same (length js) k unstarted) tt;
         }
 
@@ -263,7 +263,7 @@ module _ (js : List Job) (m : ℕ) (s : Scenario) (bounds : List Range) (levels 
     unfolding run steps
     run-after zero =
         rw (count-none (finishesAt 0) (length js) waiting refl, add-zero m, map-replicate (finished 0) (length js) waiting, ← (map-replicate (view 0) (length js) unstarted))
-        (fill-after 0 m none-started first-dawn (omega (arith, count-none (runsPast 0) (length js) unstarted refl)) (λ u l. absurd (not-suc-le-zero l)))
+        (fill-after 0 m none-started at-moment-zero (omega (arith, count-none (runsPast 0) (length js) unstarted refl)) (λ u l. absurd (not-suc-le-zero l)))
     run-after (suc t) = go (run-after t)
       where
         go : Filled t (run js m s t)
@@ -273,5 +273,5 @@ module _ (js : List Job) (m : ℕ) (s : Scenario) (bounds : List Range) (levels 
             let a = x .1 in
             let freed = count-map (finishesAt (suc t)) (view t) (runsPast (suc t)) (runsPast t) h unstarted (λ k. view-passes t (entry h k) (a .inv .begun k) .1) in
             rw (a .now, map-map (finished (suc t)) (view t) (view (suc t)) h unstarted (λ k. view-passes t (entry h k) (a .inv .begun k) .0))
-            (fill-after (suc t) (run js m s t .free + count (finishesAt (suc t)) (map (view t) h)) h (next-dawn t h (a .inv)) (omega (arith, freed, a .cores))
+            (fill-after (suc t) (run js m s t .free + count (finishesAt (suc t)) (map (view t) h)) h (at-next-moment t h (a .inv)) (omega (arith, freed, a .cores))
             (below-suc (λ u. run js m s u .statuses ≡ map (view u) h) t (a .past) (a .now)))

@@ -21,10 +21,10 @@ use Rattle.model.specs.Guarantee.{WellFormed, Admissible, statusAt, Cont
 use Rattle.model.proofs.Booleans.{cases, clash}
 use Rattle.model.proofs.Folds.{count-length, at-largest, below-suc}
 use Rattle.model.proofs.Enclosure.{All, any-all, Shaped}
-use Rattle.model.proofs.Coverage.{climb, statesOf, Coverage, coverage}
+use Rattle.model.proofs.Coverage.{kept-from, storedStates, Coverage, coverage}
 use Rattle.model.proofs.History.{Entry, unstarted, ran, entry, hasStarted, view, Finished, Begun}
 use Rattle.model.proofs.Starts.{Covers, fits-started, candidate-in, not-past-bound}
-use Rattle.model.proofs.Invariant.{Fate, Fated, Served, After, run-after}
+use Rattle.model.proofs.Invariant.{RanInBounds, EntryInBounds, Served, After, run-after}
 use Rattle.model.proofs.Predecessors.{predecessor-earlier, bell-predecessor}
 
 -- ---- the latest work-conserving bound of all levels
@@ -48,7 +48,7 @@ module _ (js : List Job) (levels : ℕ → List State) where
   level-below : (k n : ℕ) → k ≤ n → All (λ σ. workConservingBound js σ ≤ latestBound n) (levels k)
   unfolding latestBound
   level-below k n h =
-      all-below (levels k) (latestBound n) (climb (λ i. largest all (workConservingBound js) (levels k) ≤ latestBound i) (λ i p. omega arith) k n h (at-level k))
+      all-below (levels k) (latestBound n) (kept-from (λ i. largest all (workConservingBound js) (levels k) ≤ latestBound i) (λ i p. omega arith) k n h (at-level k))
 
 -- in every state all of the first n jobs have started, or there is a candidate
 some-candidate : (js : List Job) (m : ℕ) → WellFormed js m → (σ : State) (n : ℕ) → n ≤ length js
@@ -87,7 +87,7 @@ starts-agree b a f a′ f′ h e = ltb-false a a′ (sym (waits-until a a′ f�
 
 module _ (js : List Job) (m : ℕ) (s : Scenario) (bounds : List Range) (levels : ℕ → List State) where
   -- two histories that agree up to b agree on a job that started by b
-  entries-agree : (b k : ℕ) (x x′ : Entry) → hasStarted x ≡ true → Begun b x → Fated js m s bounds levels k x → Fated js m s bounds levels k x′
+  entries-agree : (b k : ℕ) (x x′ : Entry) → hasStarted x ≡ true → Begun b x → EntryInBounds js m s bounds levels k x → EntryInBounds js m s bounds levels k x′
       → ((u : ℕ) → u ≤ b → view u x ≡ view u x′) → x ≡ x′
   entries-agree b k unstarted x′ t g p q e = absurd (false≢true t)
   entries-agree b k (ran a f) unstarted t g p q e = absurd (true≢false (ap isWaiting (sym (e b (omega arith))) ∙ waits-until b a f ∙ le-ltb b a (g .0)))
@@ -139,7 +139,7 @@ module _ (js : List Job) (m : ℕ) (s : Scenario) (bounds : List Range) (levels 
         later : b < t → (g : List Entry) × After js m s bounds levels t g (run js m s t) → status (run js m s t .statuses) k ≡ view t (entry h k)
         later lt x =
             look t (x .0) (x .1 .now) k
-            ∙ ap (view t) (sym (entries-agree b k (entry h k) (entry (x .0) k) (all-started k l) (after .inv .begun k) (after .inv .fated k) (x .1 .inv .fated k)
+            ∙ ap (view t) (sym (entries-agree b k (entry h k) (entry (x .0) k) (all-started k l) (after .inv .begun k) (after .inv .in-bounds k) (x .1 .inv .in-bounds k)
             (λ u v. sym (look u h (shown u v) k) ∙ look u (x .0) (x .1 .past u (omega arith)) k)))
 
     -- ---- its starts and finish times
@@ -158,11 +158,11 @@ module _ (js : List Job) (m : ℕ) (s : Scenario) (bounds : List Range) (levels 
         go unstarted e = absurd (false≢true e)
         go (ran a f) e = refl
 
-    fate : (k : ℕ) → k < length js → Fate js m s bounds levels k (starts k) (finishes k)
+    in-bounds : (k : ℕ) → k < length js → RanInBounds js m s bounds levels k (starts k) (finishes k)
     unfolding starts finishes
-    fate k l = go (entry h k) (all-started k l) (after .inv .fated k)
+    in-bounds k l = go (entry h k) (all-started k l) (after .inv .in-bounds k)
       where
-        go : (x : Entry) → hasStarted x ≡ true → Fated js m s bounds levels k x → Fate js m s bounds levels k (startOf x) (finishTime x)
+        go : (x : Entry) → hasStarted x ≡ true → EntryInBounds js m s bounds levels k x → RanInBounds js m s bounds levels k (startOf x) (finishTime x)
         go unstarted e f = absurd (false≢true e)
         go (ran a f) e p = p
 
@@ -194,7 +194,7 @@ module _ (js : List Job) (m : ℕ) (s : Scenario) (bounds : List Range) (levels 
                 omega (
                   arith,
                   f (x .0) (omega (arith, x .2)) (lt-of-le-of-ne (x .1) d) (omega (arith, x .2)) (e ∙ sym (x .3)),
-                  fate (x .0) (omega (arith, x .2)) .executed,
+                  in-bounds (x .0) (omega (arith, x .2)) .executed,
                   ordered j r (x .0) (x .4),
                 )
 
@@ -207,14 +207,14 @@ module _ (js : List Job) (m : ℕ) (s : Scenario) (bounds : List Range) (levels 
     unfolding statusAt
     quiet t l k r =
         once k r t
-        ∙ rw (le-ltb t (starts k) (omega (arith, fate k r .executed, in-time)), le-ltb t (finishes k) in-time) refl
+        ∙ rw (le-ltb t (starts k) (omega (arith, in-bounds k r .executed, in-time)), le-ltb t (finishes k) in-time) refl
       where
         within : (a : Range) (x : ℕ) → Contains a x → x ≤ latest a
         within empty x c = absurd c
         within (range e f) x c = c .1
 
         in-time : finishes k ≤ t
-        in-time = omega (arith, within (getD bounds k empty) (finishes k) (fate k r .bounded), at-largest latest bounds k empty refl)
+        in-time = omega (arith, within (getD bounds k empty) (finishes k) (in-bounds k r .bounded), at-largest latest bounds k empty refl)
 
     kept : Kept js m bounds s
     kept =
@@ -222,10 +222,10 @@ module _ (js : List Job) (m : ℕ) (s : Scenario) (bounds : List Range) (levels 
           start = starts;
           finish = finishes;
           once = once;
-          released = λ k l. fate k l .released;
-          executed = λ k l. fate k l .executed;
-          bounded = λ k l. fate k l .bounded;
-          timely = λ k l. fate k l .timely;
+          released = λ k l. in-bounds k l .released;
+          executed = λ k l. in-bounds k l .executed;
+          bounded = λ k l. in-bounds k l .bounded;
+          timely = λ k l. in-bounds k l .timely;
           apart = apart;
           quiet = quiet;
         }
@@ -241,7 +241,7 @@ pub soundness : (js : List Job) (m cap : ℕ) → WellFormed js m → (bounds : 
 unfolding analysis
 soundness js m cap wf bounds c e s adm =
     let x = last-level (explored js m cap (length js)) bounds c e in
-    kept js m s bounds (λ n. statesOf (explored js m cap n)) (coverage js m cap (wf .cores) (x .0) bounds c (x .1)) wf adm
+    kept js m s bounds (λ n. storedStates (explored js m cap n)) (coverage js m cap (wf .cores) (x .0) bounds c (x .1)) wf adm
 
 -- where no range is empty, an accepting analysis reports a range for every job
 pub all-reported : (js : List Job) (m cap : ℕ) → WellFormed js m → (bounds : List Range) (c : ℕ) → analysis js m cap ≡ accepted bounds c

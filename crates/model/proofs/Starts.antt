@@ -28,32 +28,32 @@ use Rattle.model.proofs.History.{Entry, unstarted, ran, entry, hasStart
 -- a job has started in the state exactly if it did in the run, and then finishes within its range
 abbrev pub Fits : Range → Entry → Type 0
 Fits empty unstarted = Unit {0}
-Fits empty (ran s x) = ⊥
+Fits empty (ran start x) = ⊥
 Fits (range e f) unstarted = ⊥
-Fits (range e f) (ran s x) = (e ≤ x) × (x ≤ f)
+Fits (range e f) (ran start x) = (e ≤ x) × (x ≤ f)
 
 pub fits-started : (a : Range) (x : Entry) → Fits a x → isRange a ≡ hasStarted x
 fits-started empty unstarted h = refl
-fits-started empty (ran s x) h = absurd h
+fits-started empty (ran start x) h = absurd h
 fits-started (range e f) unstarted h = absurd h
-fits-started (range e f) (ran s x) h = refl
+fits-started (range e f) (ran start x) h = refl
 
 fits-wider : (a b : Range) (x : Entry) → Wider a b → Fits b x → Fits a x
 fits-wider empty empty x w h = h
 fits-wider empty (range e f) x w h = absurd w
 fits-wider (range a b) empty x w h = absurd w
 fits-wider (range a b) (range e f) unstarted w h = h
-fits-wider (range a b) (range e f) (ran s x) w h = omega arith
+fits-wider (range a b) (range e f) (ran start x) w h = omega arith
 
 fits-finished : (u : ℕ) (a : Range) (x : Entry) → Fits a x → isRange a ≡ true → latest a ≤ u → Finished u x
 fits-finished u empty x h e l = absurd (false≢true e)
 fits-finished u (range a b) unstarted h e l = h
-fits-finished u (range a b) (ran s f) h e l = omega arith
+fits-finished u (range a b) (ran start f) h e l = omega arith
 
 finished-earliest : (u : ℕ) (a : Range) (x : Entry) → Fits a x → Finished u x → earliest a ≤ u
 finished-earliest u empty x h l = omega arith
 finished-earliest u (range a b) unstarted h l = absurd h
-finished-earliest u (range a b) (ran s f) h l = omega arith
+finished-earliest u (range a b) (ran start f) h l = omega arith
 
 -- The state covers the run at t: from t on every core is possibly free or busy, and where a core is certainly free, all that are certainly free
 -- and all busy ones are at most m.

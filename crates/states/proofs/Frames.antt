@@ -12,13 +12,13 @@ use Rattle.words.proofs.Tabulate.{tabulate-ext}
 use Rattle.words.proofs.Parts.{get-before, get-after, part-take}
 use Rattle.states.specs.internal.Slots.{setWords, possiblyAt, certainlyAt, earliestAt, latestAt, setOf, inSet, rangeAt, stateOf}
 
-pub same-state : {s s′ : List Range} {p p′ c c′ : List ℕ} → s ≡ s′ → p ≡ p′ → c ≡ c′
-    → _≡_ {A = State} (record { finish = s; possiblyFree = p; certainlyFree = c }) (record { finish = s′; possiblyFree = p′; certainlyFree = c′ })
-same-state p q r = rw (p, q, r)
+pub same-state : {r r′ : List Range} {p p′ c c′ : List ℕ} → r ≡ r′ → p ≡ p′ → c ≡ c′
+    → _≡_ {A = State} (record { finish = r; possiblyFree = p; certainlyFree = c }) (record { finish = r′; possiblyFree = p′; certainlyFree = c′ })
+same-state d e f = rw (d, e, f)
 
-pub same-set : (ws vs : List ℕ) → getD ws 0 0 ≡ getD vs 0 0 → getD ws 1 0 ≡ getD vs 1 0 → setOf ws ≡ setOf vs
+pub same-set-words : (ws vs : List ℕ) → getD ws 0 0 ≡ getD vs 0 0 → getD ws 1 0 ≡ getD vs 1 0 → setOf ws ≡ setOf vs
 unfolding setOf
-same-set ws vs p q = rw (p, q)
+same-set-words ws vs p q = rw (p, q)
 
 module _ (m k : ℕ) (ws vs : List ℕ) where
   pub same-range : (i : ℕ) → inSet (setOf ws) i ≡ inSet (setOf vs) i → getD ws (earliestAt m + i) 0 ≡ getD vs (earliestAt m + i) 0
@@ -36,7 +36,7 @@ module _ (m k : ℕ) (ws vs : List ℕ) where
 
 module _ (m k a : ℕ) (d ys : List ℕ) (first : setWords ≤ a) (last : a + m ≤ earliestAt m) (h : stateWords m k ≤ length d) (l : length ys ≡ m) where
   pub put-set : setOf (putMid a m d ys) ≡ setOf d
-  put-set = same-set (putMid a m d ys) d (get-before a m d ys (omega arith) l 0 (omega arith)) (get-before a m d ys (omega arith) l 1 (omega arith))
+  put-set = same-set-words (putMid a m d ys) d (get-before a m d ys (omega arith) l 0 (omega arith)) (get-before a m d ys (omega arith) l 1 (omega arith))
 
   pub put-finish : stateOf m k (putMid a m d ys) .finish ≡ stateOf m k d .finish
   put-finish = same-finish m k (putMid a m d ys) d put-set (λ i b c. get-after a m d ys (omega arith) l i (omega arith))
@@ -45,7 +45,7 @@ module _ (m k a : ℕ) (d ys : List ℕ) (first : setWords ≤ a) (last : a + m 
 
 module _ (m k : ℕ) (ws : List ℕ) where
   pub take-set : setOf (take (stateWords m k) ws) ≡ setOf ws
-  take-set = same-set (take (stateWords m k) ws) ws (getD-take (stateWords m k) ws 0 0 (omega arith)) (getD-take (stateWords m k) ws 1 0 (omega arith))
+  take-set = same-set-words (take (stateWords m k) ws) ws (getD-take (stateWords m k) ws 0 0 (omega arith)) (getD-take (stateWords m k) ws 1 0 (omega arith))
 
   pub take-state : stateOf m k (take (stateWords m k) ws) ≡ stateOf m k ws
   unfolding stateOf

@@ -21,7 +21,7 @@ use Rattle.states.specs.internal.Slots.{setWords, possiblyAt, certainlyA
 use Rattle.states.proofs.Contents.{finish-length, set-mask}
 use Rattle.states.specs.internal.Writing.{Widened}
 use Rattle.states.proofs.Pairs.{getD-zip, zip-tabulate}
-use Rattle.states.proofs.Frames.{same-state, same-set}
+use Rattle.states.proofs.Frames.{same-state, same-set-words}
 
 -- ---- which states can merge
 
@@ -74,7 +74,7 @@ module _ (m k : ℕ) (d s d₁ d₂ : List ℕ) (hd : stateWords m k ≤ length 
       sym (getD-take setWords d₂ j 0 g) ∙ ap (λ (z : List ℕ). getD z j 0) (y .before 0 setWords (omega arith) ∙ x .before 0 setWords (omega arith)) ∙ getD-take setWords d j 0 g
 
   pub merged-set : setOf d₂ ≡ setOf d
-  merged-set = same-set d₂ d (set-word 0 (omega arith)) (set-word 1 (omega arith))
+  merged-set = same-set-words d₂ d (set-word 0 (omega arith)) (set-word 1 (omega arith))
 
   earliest-word : (j : ℕ) → j < k → getD d₂ (earliestAt m + j) 0 ≡ min (getD d (earliestAt m + j) 0) (getD s (earliestAt m + j) 0)
   earliest-word = zip-word min (earliestAt m) k d₂ d s (y .low ∙ ap (λ (z : List ℕ). zipWith min z (part (earliestAt m) k s)) (x .after (earliestAt m) k (omega arith))) (omega arith) (omega arith)

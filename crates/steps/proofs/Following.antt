@@ -29,9 +29,9 @@ use Rattle.edges.proofs.Listing.{fold-listed, fold-turn}
 use Rattle.steps.specs.internal.Observed.{observedOf}
 use Rattle.steps.specs.internal.Progress.{goingIn, progressOf, Leaves, Follows}
 use Rattle.steps.specs.declared.shape.Shape.{Shape}
-use Rattle.steps.specs.declared.step.Step.{Step}
-use Rattle.steps.specs.declared.step.Step.the-variants.{Going, Full, Late}
-use Rattle.steps.proofs.step.Step.{the-type}
+use Rattle.steps.specs.declared.progress.Progress.{Progress}
+use Rattle.steps.specs.declared.progress.Progress.the-variants.{Going, Full, Late}
+use Rattle.steps.proofs.progress.Progress.{the-type}
 
 -- ---- an edge that was found
 
@@ -186,18 +186,18 @@ module _ (js : List Job) (cap : ℕ) (σ : State) where
 -- ---- the same, by what the words say
 
 -- a step that does not go on has stopped
-pub ended : (r : Step) → (tagOf the-type r ≡ 1) ⊎ (tagOf the-type r ≡ 2) → (m k : ℕ) (seen : List Range) (c : ℕ) (half : List ℕ) → Stopped (progressOf m k seen c r half)
+pub ended : (r : Progress) → (tagOf the-type r ≡ 1) ⊎ (tagOf the-type r ≡ 2) → (m k : ℕ) (seen : List Range) (c : ℕ) (half : List ℕ) → Stopped (progressOf m k seen c r half)
 ended (Going n) h m k seen c half = ⊎-elim (λ (e : tagOf the-type (Going n) ≡ 1). absurd (omega (arith, e))) (λ (e : tagOf the-type (Going n) ≡ 2). absurd (omega (arith, e))) h
 ended (Full l) h m k seen c half = tt
 ended (Late i e f) h m k seen c half = tt
 
 module _ (js : List Job) (shape : Shape) (σ : State) (list : List ℕ) (from : ℕ → Exploration) where
   -- what is left once the first t of the listed jobs are tried
-  abbrev pub Tried : ℕ → Step → List ℕ → List ℕ → List ℕ → Type 0
+  abbrev pub Tried : ℕ → Progress → List ℕ → List ℕ → List ℕ → Type 0
   Tried t = Leaves js shape (λ c. tryListed js (shape .capacity) σ (take t list) (from c))
 
   -- one job more
-  pub tried-more : (t : ℕ) {stored : ℕ} {half seen heads half′ seen′ heads′ : List ℕ} {r : Step} → t < length list → Tried t (Going stored) half seen heads
+  pub tried-more : (t : ℕ) {stored : ℕ} {half seen heads half′ seen′ heads′ : List ℕ} {r : Progress} → t < length list → Tried t (Going stored) half seen heads
       → Leaves js shape (λ c. tryJob js (shape .capacity) σ (getD list t 0) (goingIn shape half stored seen c)) r half′ seen′ heads′ → Tried (t + 1) r half′ seen′ heads′
   tried-more t h before leaves =
       record {
@@ -208,11 +208,11 @@ module _ (js : List Job) (shape : Shape) (σ : State) (list : List ℕ) (from : 
 
   module _ (listed : list ≡ candidates js σ (shape .jobs)) where
     -- what is left by every job of the state
-    abbrev pub AllTried : Step → List ℕ → List ℕ → List ℕ → Type 0
+    abbrev pub AllTried : Progress → List ℕ → List ℕ → List ℕ → Type 0
     AllTried = Leaves js shape (λ c. tryJobs js (shape .capacity) σ (shape .jobs) (from c))
 
     -- the listed jobs are all that matter
-    pub tried-all : (t : ℕ) {r : Step} {half seen heads : List ℕ} → length list ≤ t → Tried t r half seen heads → AllTried r half seen heads
+    pub tried-all : (t : ℕ) {r : Progress} {half seen heads : List ℕ} → length list ≤ t → Tried t r half seen heads → AllTried r half seen heads
     tried-all t h leaves =
         record {
           same = λ c. leaves .same c ∙ all-tried js (shape .capacity) σ (shape .jobs) list listed (from c) t h;
@@ -221,7 +221,7 @@ module _ (js : List Job) (shape : Shape) (σ : State) (list : List ℕ) (from : 
         }
 
     -- once stopped, the jobs that are left change nothing
-    pub tried-enough : (t : ℕ) {r : Step} {half seen heads : List ℕ} → (tagOf the-type r ≡ 1) ⊎ (tagOf the-type r ≡ 2) → Tried t r half seen heads → AllTried r half seen heads
+    pub tried-enough : (t : ℕ) {r : Progress} {half seen heads : List ℕ} → (tagOf the-type r ≡ 1) ⊎ (tagOf the-type r ≡ 2) → Tried t r half seen heads → AllTried r half seen heads
     tried-enough t {r = r} {half = half} {seen = seen} h leaves =
         record {
           same = λ c. stopped js (shape .capacity) σ (shape .jobs) list listed (from c) _ t (ended r h (shape .cores) (shape .jobs) (observedOf (shape .jobs) seen) c half) (leaves .same c);

@@ -9,8 +9,8 @@ ghost use Rattle.edges.specs.internal.Edges.{edgeOf, candidates, PredecessorSet
 ghost use Rattle.steps.specs.internal.Observed.{observedOf, Observed};
 ghost use Rattle.steps.specs.internal.Progress.{jobsIn, stateIn, goingIn, Target, Leaves, Explores, Follows};
 use crate::observed::observe;
+use crate::progress::Progress;
 use crate::shape::Shape;
-use crate::step::Step;
 use crate::successor::store_successor;
 use edges::Edge;
 use edges::edge_of;
@@ -38,7 +38,7 @@ pub fn follow(
     cur: &[u32],
     shape: Shape,
     start: JobStart,
-) -> Step
+) -> Progress
     requires { ⌜ (start .job < shape .jobs) × Explores (now rows) shape (now cur) (now half) n (now seen) (now heads)
         × Follows (jobsIn shape (now rows)) (stateIn shape (now cur)) start ⌝ }
     ensures { λ r. ⌜ Leaves (jobsIn shape (now (rows .entry))) shape
@@ -52,7 +52,7 @@ pub fn follow(
     let f = start.latest;
     observe(seen, k, i, e, f);
     if deadline(rows, k, i) < f {
-        return Step::Late(i, e, f);
+        return Progress::Late(i, e, f);
     }
     store_successor(half, heads, n, cur, shape, start)
 }
@@ -67,7 +67,7 @@ pub fn try_job(
     cur: &[u32],
     shape: Shape,
     tried: Candidate,
-) -> Step
+) -> Progress
     requires { ⌜ (tried .job < shape .jobs) × Explores (now rows) shape (now cur) (now half) n (now seen) (now heads)
         × (tried .edge ≡ edgeOf (jobsIn shape (now rows)) (stateIn shape (now cur)) (tried .job)) ⌝ }
     ensures { λ r. ⌜ Leaves (jobsIn shape (now (rows .entry))) shape
@@ -76,7 +76,7 @@ pub fn try_job(
 {
     let edge = tried.edge;
     let Edge::Starts(s, t) = edge else {
-        return Step::Going(n);
+        return Progress::Going(n);
     };
     let i = tried.job;
     let k = shape.jobs;
@@ -101,7 +101,7 @@ pub fn try_jobs(
     cur: &[u32],
     shape: Shape,
     list: &[u32],
-) -> Step
+) -> Progress
     requires { ⌜ Explores (now rows) shape (now cur) (now half) n (now seen) (now heads)
         × (now list ≡ candidates (jobsIn shape (now rows)) (stateIn shape (now cur)) (shape .jobs)) ⌝ }
     ensures { λ r. ⌜ Leaves (jobsIn shape (now (rows .entry))) shape
@@ -117,14 +117,14 @@ pub fn try_jobs(
         let i = list[t] as usize;
         let edge = edge_of(rows, k, cur, m, list, bound, i);
         let tried = Candidate { job: i, edge };
-        let step = try_job(half, seen, heads, stored, rows, cur, shape, tried);
-        let Step::Going(x) = step else {
-            return step;
+        let progress = try_job(half, seen, heads, stored, rows, cur, shape, tried);
+        let Progress::Going(x) = progress else {
+            return progress;
         };
         stored = x;
         t += 1;
     }
-    Step::Going(stored)
+    Progress::Going(stored)
 }
 
 // Every edge of one state, into the half, which holds n states. `sets` are the predecessors of each job.
@@ -137,7 +137,7 @@ pub fn try_state(
     sets: &[u64],
     cur: &[u32],
     shape: Shape,
-) -> Step
+) -> Progress
     requires { ⌜ Setting (now rows) (shape .jobs) (shape .cores) × (shape .jobs ≤ length (now sets))
         × PredecessorSets (jobsIn shape (now rows)) (shape .jobs) (now sets) ⌝ }
     requires { ⌜ (stateWords (shape .cores) (shape .jobs) ≤ length (now cur)) × Sound (jobsIn shape (now rows)) (shape .cores) (shape .jobs) (now cur)

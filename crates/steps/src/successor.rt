@@ -14,8 +14,8 @@ ghost use Rattle.states.specs.internal.Slots.{setOf, stateOf, statesOf};
 ghost use Rattle.states.specs.internal.Writing.{afterStart};
 ghost use Rattle.store.specs.internal.Half.{SetsFit, Indexed};
 ghost use Rattle.steps.specs.internal.Progress.{stateIn, progressOf, Half, HalfAt};
+use crate::progress::Progress;
 use crate::shape::Shape;
-use crate::step::Step;
 use states::copying::load_state;
 use states::reading::level_of;
 use states::sizes::MOST_STATE_WORDS;
@@ -43,7 +43,7 @@ pub fn store_successor(
     cur: &[u32],
     shape: Shape,
     start: JobStart,
-) -> Step
+) -> Progress
     requires { ⌜ (start .job < shape .jobs) × (shape .jobs ≤ mostJobs) × (1 ≤ shape .cores) × (shape .cores ≤ mostCores)
         × (stateWords (shape .cores) (shape .jobs) ≤ length (now cur)) × (setOf (now cur) < 2 ^ shape .jobs)
         × (started (stateIn shape (now cur)) (start .job) ≡ false) × Ordered (stateIn shape (now cur)) ⌝ }
@@ -61,7 +61,7 @@ pub fn store_successor(
     let mut new = [0u32; MOST_STATE_WORDS];
     write_successor(&mut new, cur, m, k, start);
     match store_state(half, heads, n, shape.capacity, &new, m, k) {
-        Stored::At(stored) => Step::Going(stored),
-        Stored::Full => Step::Full(level_of(&new, m, k)),
+        Stored::At(stored) => Progress::Going(stored),
+        Stored::Full => Progress::Full(level_of(&new, m, k)),
     }
 }

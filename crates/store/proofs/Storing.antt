@@ -109,8 +109,8 @@ module _ (m k : ℕ) (half new : List ℕ) (n cap : ℕ) (room : cap * stateWord
   abbrev states : List State
   states = statesOf m k half n
 
-  abbrev Outcome : Stored → List ℕ → Type 0
-  Outcome r out =
+  abbrev Result : Stored → List ℕ → Type 0
+  Result r out =
       ((seen : List Range) (c : ℕ) → levelOf m k state seen c r out ≡ limited cap state (stored state states) seen c)
       × ((js : List Job) → AllSound js m k half n → Sound js m k new → SoundAt js m k cap r out)
 
@@ -134,9 +134,9 @@ module _ (m k : ℕ) (half new : List ℕ) (n cap : ℕ) (room : cap * stateWord
       let l : length (stored state states) ≤ cap = omega (arith, ap length e, states-length m k out count) in
       rw (le-ltb cap (length (stored state states)) l, e) refl
 
-  pub merged-outcome : (j : ℕ) (out : List ℕ) → FirstMerging m k half n new j → j < n → stateOf m k (slotOf m k out j) ≡ merge (stateOf m k (slotOf m k half j)) state
-      → setOf (slotOf m k out j) ≡ setOf new → OthersKept m k j half out → Outcome (At n) out
-  merged-outcome j out f h p q o = (in-room out n level most, λ js a s. (most, λ i b. sound js a s i b (ℕ-discrete i j)))
+  pub merged-result : (j : ℕ) (out : List ℕ) → FirstMerging m k half n new j → j < n → stateOf m k (slotOf m k out j) ≡ merge (stateOf m k (slotOf m k half j)) state
+      → setOf (slotOf m k out j) ≡ setOf new → OthersKept m k j half out → Result (At n) out
+  merged-result j out f h p q o = (in-room out n level most, λ js a s. (most, λ i b. sound js a s i b (ℕ-discrete i j)))
     where
       level : statesOf m k out n ≡ stored state states
       level =
@@ -155,8 +155,8 @@ module _ (m k : ℕ) (half new : List ℕ) (n cap : ℕ) (room : cap * stateWord
     last : stored state states ≡ states ++ (state ∷ [])
     last = stored-last state states state (λ i b. let b₁ : i < n = omega (arith, b, states-length m k half n) in ap (λ (τ : State). mergeable τ state) (state-at m k half n i state b₁) ∙ none i b₁)
 
-    pub added-outcome : (out : List ℕ) → n < cap → slotOf m k out n ≡ take (stateWords m k) new → OthersKept m k n half out → Outcome (At (n + 1)) out
-    added-outcome out b p o = (in-room out (n + 1) level (omega arith), λ js a s. (omega arith, below-more (λ (i : ℕ). Sound js m k (slotOf m k out i)) n (λ i g. rw (same i g) (a i g)) (sound js s)))
+    pub added-result : (out : List ℕ) → n < cap → slotOf m k out n ≡ take (stateWords m k) new → OthersKept m k n half out → Result (At (n + 1)) out
+    added-result out b p o = (in-room out (n + 1) level (omega arith), λ js a s. (omega arith, below-more (λ (i : ℕ). Sound js m k (slotOf m k out i)) n (λ i g. rw (same i g) (a i g)) (sound js s)))
       where
         same : (i : ℕ) → i < n → slotOf m k out i ≡ slotOf m k half i
         same = slots-kept out o
@@ -167,9 +167,9 @@ module _ (m k : ℕ) (half new : List ℕ) (n cap : ℕ) (room : cap * stateWord
         sound : (js : List Job) → Sound js m k new → Sound js m k (slotOf m k out n)
         sound js s = rw p (record { set-fits = rw (take-set m k new) (s .set-fits); bounded = rw (take-state m k new) (s .bounded) })
 
-    pub full-outcome : cap ≤ n → Outcome Full half
+    pub full-result : cap ≤ n → Result Full half
     unfolding limited
-    full-outcome b = (λ seen c. rw (lt-ltb cap (length (stored state states)) (omega (arith, ap length last, length-append states (state ∷ []), states-length m k half n))) refl, λ js a s. tt)
+    full-result b = (λ seen c. rw (lt-ltb cap (length (stored state states)) (omega (arith, ap length last, length-append states (state ∷ []), states-length m k half n))) refl, λ js a s. tt)
 
 -- the new state and the first that merges with it have one set
 pub one-set : (m k : ℕ) (half new : List ℕ) (n j : ℕ) → SetsFit m k half n → setOf new < 2 ^ k → FirstMerging m k half n new j → j < n → setOf (slotOf m k half j) ≡ setOf new

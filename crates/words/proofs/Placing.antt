@@ -34,9 +34,9 @@ unfolding placed
 put-placed t at n row l = rw (drop-drop, l)
 
 -- words stored one by one from a place on
-pub stored : (t : List ℕ) (at : ℕ) (ws : List ℕ) → at + length ws ≤ length t → sets t at ws ≡ placed t at ws
+pub sets-placed : (t : List ℕ) (at : ℕ) (ws : List ℕ) → at + length ws ≤ length t → sets t at ws ≡ placed t at ws
 unfolding placed
-stored t at ws h = sets-eq ws t at h ∙ append-assoc (take at t) ws (drop (at + length ws) t)
+sets-placed t at ws h = sets-eq ws t at h ∙ append-assoc (take at t) ws (drop (at + length ws) t)
 
 -- a row in the place of the whole
 pub placed-whole : (t ws : List ℕ) → length t ≡ length ws → placed t 0 ws ≡ ws

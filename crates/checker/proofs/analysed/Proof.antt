@@ -5,8 +5,8 @@ use denote.Ref.{now}
 use borrow.Author.Needs.{needs}
 use Rattle.model.specs.Exploration.{analysis, capacity}
 use Rattle.jobs.specs.Rows.{jobsOf}
-use Rattle.analysis.specs.internal.Outcomes.{verdictIn}
-use Rattle.analysis.specs.declared.levels.Outcome.{Outcome}
+use Rattle.analysis.specs.internal.Answers.{verdictIn}
+use Rattle.analysis.specs.declared.levels.Analysed.{Analysed}
 use Rattle.checker.specs.Checking.{resultOf}
 use Rattle.checker.proofs.Accepted.{all-finished}
 use Rattle.checker.proofs.analysed.Statement.{statement}
@@ -16,9 +16,9 @@ abbrev start : tie.After-analyse → tie.Start
 start c = c .before .before .before .before .before
 
 -- an outcome says what the definition answers
-told : (c : tie.After-analyse) (o : Outcome) → c .analyse .result ≡ o
+told : (c : tie.After-analyse) (o : Analysed) → c .analyse .result ≡ o
     → let a = start c .args in verdictIn (a .k) o (c .analyse .last .1 .0) ≡ analysis (jobsOf (now (a .rows)) (a .k)) (a .m) (capacity (length (now (a .table))) (a .m) (a .k))
-told c o e = ap (λ (z : Outcome). verdictIn (start c .args .k) z (c .analyse .last .1 .0)) (sym e) ∙ c .analyse .ensures .0
+told c o e = ap (λ (z : Analysed). verdictIn (start c .args .k) z (c .analyse .last .1 .0)) (sym e) ∙ c .analyse .ensures .0
 
 slice-aggregate-analyse : tie.Need-slice-aggregate-analyse
 slice-aggregate-analyse c = search needs

@@ -14,8 +14,8 @@ use Rattle.states.specs.internal.Slots.{stateOf, statesOf, Sound, AllSound}
 use Rattle.store.specs.internal.Half.{Indexed}
 use Rattle.steps.specs.internal.Observed.{observedOf, Observed}
 use Rattle.steps.specs.declared.shape.Shape.{Shape}
-use Rattle.steps.specs.declared.step.Step.{Step}
-use Rattle.steps.specs.declared.step.Step.the-variants.{Going, Full, Late}
+use Rattle.steps.specs.declared.progress.Progress.{Progress}
+use Rattle.steps.specs.declared.progress.Progress.the-variants.{Going, Full, Late}
 
 -- ---- what words say in a check of this shape
 
@@ -32,7 +32,7 @@ goingIn shape half n seen c = going (statesOf (shape .cores) (shape .jobs) half 
 -- ---- how far it has come
 
 -- the exploration, with these observed ranges and c states counted before
-abbrev pub progressOf : ℕ → ℕ → List Range → ℕ → Step → List ℕ → Exploration
+abbrev pub progressOf : ℕ → ℕ → List Range → ℕ → Progress → List ℕ → Exploration
 progressOf m k seen c (Going n) half = going (statesOf m k half n) seen c
 progressOf m k seen c (Full l) half = full l
 progressOf m k seen c (Late i e f) half = miss i e f
@@ -47,13 +47,13 @@ pub record Half (js : List Job) (m k cap : ℕ) (half : List ℕ) (n : ℕ) : Ty
 abbrev pub Target : List Job → ℕ → ℕ → ℕ → List ℕ → List ℕ → ℕ → Type 0
 Target js m k cap half heads n = Half js m k cap half n × Indexed m k half n heads
 
-abbrev pub HalfAt : List Job → ℕ → ℕ → ℕ → Step → List ℕ → List ℕ → Type 0
+abbrev pub HalfAt : List Job → ℕ → ℕ → ℕ → Progress → List ℕ → List ℕ → Type 0
 HalfAt js m k cap (Going n) half heads = Target js m k cap half heads n
 HalfAt js m k cap (Full l) half heads = Unit {0}
 HalfAt js m k cap (Late i e f) half heads = Unit {0}
 
 -- what a step leaves: the words say what the definition's next exploration says, and can be gone on from
-pub record Leaves (js : List Job) (shape : Shape) (next : ℕ → Exploration) (r : Step) (half seen heads : List ℕ) : Type 0 where
+pub record Leaves (js : List Job) (shape : Shape) (next : ℕ → Exploration) (r : Progress) (half seen heads : List ℕ) : Type 0 where
   pub same : (c : ℕ) → progressOf (shape .cores) (shape .jobs) (observedOf (shape .jobs) seen) c r half ≡ next c
   pub sound : HalfAt js (shape .cores) (shape .jobs) (shape .capacity) r half heads
   pub observed : Observed (shape .jobs) seen

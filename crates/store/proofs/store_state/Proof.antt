@@ -8,7 +8,7 @@ use Rattle.model.specs.Exploration.{stateWords}
 use Rattle.states.specs.internal.Slots.{setOf}
 use Rattle.states.proofs.Frames.{take-set}
 use Rattle.store.specs.internal.Half.{NoneMerges, bucketOf, FirstOf}
-use Rattle.store.proofs.Storing.{slot-fits, one-set, merged-outcome, added-outcome, full-outcome, sets-kept, slots-kept}
+use Rattle.store.proofs.Storing.{slot-fits, one-set, merged-result, added-result, full-result, sets-kept, slots-kept}
 use Rattle.store.proofs.Indexing.{bucket-inside, none-merges, indexed-same, indexed-more}
 use Rattle.store.proofs.store_state.Statement.{statement}
 use Rattle.store.proofs.store_state.Tie as tie
@@ -79,7 +79,7 @@ returns c =
     let f = c .before .before .before .before .before .find-merging in
     let x = c .before .before .merge-at in
     let same = one-set (a .args .m) (a .args .k) (now (a .args .half)) (now (a .args .new)) (a .args .n) (f .result) (a .pre .5) (a .pre .6) (f .ensures) (c .before .before .before .before .if1 .taken) in
-    let o = merged-outcome (a .args .m) (a .args .k) (now (a .args .half)) (now (a .args .new)) (a .args .n) (a .args .cap) (a .pre .2) (a .pre .3) (f .result) (x .last .0) (f .ensures) (c .before .before .before .before .if1 .taken) (x .ensures .0 .0) (x .ensures .0 .1) (x .ensures .1) in (
+    let o = merged-result (a .args .m) (a .args .k) (now (a .args .half)) (now (a .args .new)) (a .args .n) (a .args .cap) (a .pre .2) (a .pre .3) (f .result) (x .last .0) (f .ensures) (c .before .before .before .before .if1 .taken) (x .ensures .0 .0) (x .ensures .0 .1) (x .ensures .1) in (
       o .0,
       (
         o .1,
@@ -112,7 +112,7 @@ returns-2 : tie.Need-returns-2
 returns-2 c =
     let a = c .before .before .before .before .before .before .before .before .before .before .before .before .before .before .before .before in
     let x = c .before .before .put-at in
-    let o = added-outcome (a .args .m) (a .args .k) (now (a .args .half)) (now (a .args .new)) (a .args .n) (a .args .cap) (a .pre .2) (a .pre .3) (none (c .before .before .before .before .before)) (x .last .0) (c .before .before .before .before .if2 .taken) (x .ensures .0) (x .ensures .1) in (
+    let o = added-result (a .args .m) (a .args .k) (now (a .args .half)) (now (a .args .new)) (a .args .n) (a .args .cap) (a .pre .2) (a .pre .3) (none (c .before .before .before .before .before)) (x .last .0) (c .before .before .before .before .if2 .taken) (x .ensures .0) (x .ensures .1) in (
       o .0,
       (
         o .1,
@@ -132,7 +132,7 @@ same-length-6 c = search needs
 returns-3 : tie.Need-returns-3
 returns-3 c =
     let a = c .before .before .before .before .before .before .before .before .before .before .before .before in
-    let o = full-outcome (a .args .m) (a .args .k) (now (a .args .half)) (now (a .args .new)) (a .args .n) (a .args .cap) (a .pre .2) (a .pre .3) (none (c .before)) (c .if2 .left) in
+    let o = full-result (a .args .m) (a .args .k) (now (a .args .half)) (now (a .args .new)) (a .args .n) (a .args .cap) (a .pre .2) (a .pre .3) (none (c .before)) (c .if2 .left) in
     (o .0, (o .1, tt))
 
 pub store-state-spec : {M : Type 1} → statement M

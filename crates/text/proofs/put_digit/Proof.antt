@@ -4,7 +4,7 @@ use mathlib.Core.Path.{refl}
 use mathlib.Core.List.{[], _∷_}
 use denote.Ref.{now}
 use borrow.Author.Needs.{needs}
-use Rattle.words.proofs.Placing.{stored}
+use Rattle.words.proofs.Placing.{sets-placed}
 use Rattle.text.specs.Decimal.{digit}
 use Rattle.text.proofs.put_digit.Statement.{statement}
 use Rattle.text.proofs.put_digit.Tie as tie
@@ -27,7 +27,7 @@ same-length c = search needs
 returns : tie.Need-returns
 returns c =
     let a = c .args in
-    record { ended = refl; holds = stored (now (a .buffer)) (a .at) (digit (a .n) ∷ []) (omega arith) }
+    record { ended = refl; holds = sets-placed (now (a .buffer)) (a .at) (digit (a .n) ∷ []) (omega arith) }
 
 pub put-digit-spec : {M : Type 1} → statement M
 put-digit-spec =

@@ -1,9 +1,9 @@
--- `analyse` meets its contract: the levels are climbed from cleared words. Assumes nothing.
+-- `analyse` meets its contract: the levels are built from cleared words. Assumes nothing.
 use mathlib.Core.Path.{_≡_, ap, _∙_}
 use denote.Ref.{now}
 use borrow.Author.Needs.{needs}
 use Rattle.steps.specs.internal.Observed.{observedWords}
-use Rattle.analysis.proofs.LevelZero.{zeros, nothing-observed, no-room, first-inside, cleared-room, first-half, first-level, analysed}
+use Rattle.analysis.proofs.LevelZero.{zeros, nothing-observed, no-room, first-inside, cleared-room, first-half, first-level, answered}
 use Rattle.analysis.proofs.levels.analyse.Statement.{statement}
 use Rattle.analysis.proofs.levels.analyse.Tie as tie
 
@@ -47,8 +47,8 @@ part-clear-end c =
 clear-requires-2 : tie.Need-clear-requires-2
 clear-requires-2 c κs = search needs
 
-climb-levels-requires : tie.Need-climb-levels-requires
-climb-levels-requires c κs =
+build-levels-requires : tie.Need-build-levels-requires
+build-levels-requires c κs =
     let a = c .before .before .before .before .before .before .before .before .before .before .before .before .before .before .before in
     let x = a .args in
     let s = c .before .before .before .before .before .before .before .state-words in
@@ -74,8 +74,8 @@ returns-2 c =
     let x = c .before .before .before .before .before .before .before .before .before .before .before .before .before .before .before .before .before .before .before .before .args in
     let s = c .before .before .before .before .before .before .before .before .before .before .before .before .state-words in
     let first = c .before .before .before .before .before .before .before .before .before .clear2 in
-    let y = c .before .before .before .before .climb-levels in
-    analysed (now (x .rows)) (x .k) (x .m) (now (x .table)) (s .ensures) (c .before .before .before .before .before .before .before .before .before .before .before .if1 .left) (first .ensures) (y .last .0) (y .ensures .0) (y .ensures .1 .0) (y .ensures .1 .1)
+    let y = c .before .before .before .before .build-levels in
+    answered (now (x .rows)) (x .k) (x .m) (now (x .table)) (s .ensures) (c .before .before .before .before .before .before .before .before .before .before .before .if1 .left) (first .ensures) (y .last .0) (y .ensures .0) (y .ensures .1 .0) (y .ensures .1 .1)
 
 pub analyse-spec : {M : Type 1} → statement M
 analyse-spec =
@@ -91,7 +91,7 @@ analyse-spec =
     part-clear-start
     part-clear-end
     clear-requires-2
-    climb-levels-requires
+    build-levels-requires
     same-length-2
     same-length-3
     returns-2)

@@ -106,8 +106,8 @@ try-state-requires c κs =
       ),
     )
 
-enum-known-step : tie.Need-enum-known-step Inv-loop μ-loop
-enum-known-step c = search needs
+enum-known-progress : tie.Need-enum-known-progress Inv-loop μ-loop
+enum-known-progress c = search needs
 
 -- ---- what a state leaves
 
@@ -156,7 +156,7 @@ loop-again : tie.Need-loop-again Inv-loop μ-loop
 loop-again c =
     let x = c .before .before .before .before .before .before .before .before .before in
     let l = loaded x .load-state in
-    building-goes-on (turn x .before .loop .inv) (turn x .before .before .state-words .ensures) (turn x .loop-test .taken) (l .last .0) (l .ensures .0) (x .try-state .kept .0) (x .try-state .ensures) (c .before .step .given .1)
+    building-goes-on (turn x .before .loop .inv) (turn x .before .before .state-words .ensures) (turn x .loop-test .taken) (l .last .0) (l .ensures .0) (x .try-state .kept .0) (x .try-state .ensures) (c .before .progress .given .1)
 
 -- ---- after the last state
 
@@ -197,7 +197,7 @@ build-level-spec =
     part-try-state-end
     slice-aggregate-try-state
     try-state-requires
-    enum-known-step
+    enum-known-progress
     same-length
     same-length-2
     same-length-3

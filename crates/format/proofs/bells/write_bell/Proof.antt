@@ -6,7 +6,7 @@ use lib.ListN.{length-set}
 use denote.Ref.{now}
 use Rattle.format.specs.Reading.{bellIn}
 use Rattle.format.specs.Rows.{bellRow}
-use Rattle.words.proofs.Placing.{stored, placed-whole}
+use Rattle.words.proofs.Placing.{sets-placed, placed-whole}
 use borrow.Author.Needs.{needs}
 use Rattle.format.proofs.bells.write_bell.Statement.{statement}
 use Rattle.format.proofs.bells.write_bell.Tie as tie
@@ -59,7 +59,7 @@ returns c =
     let a = c .before .before .before .before .before .before .before in
     let ws = a .args .key ∷ c .before .before .before .before .byte .result ∷ c .before .before .before .byte2 .result ∷ c .before .before .be-16 .result ∷ c .before .be-162 .result ∷ c .byte3 .result ∷ 0 ∷ 0 ∷ [] in
     let e : ws ≡ bellRow (bellIn (now (a .args .part))) = λ i. a .pre .1 i ∷ c .before .before .before .before .byte .ensures .0 i ∷ c .before .before .before .byte2 .ensures .0 i ∷ c .before .before .be-16 .ensures .0 i ∷ c .before .be-162 .ensures .0 i ∷ c .byte3 .ensures .0 i ∷ 0 ∷ 0 ∷ [] in
-    stored (now (a .args .row)) 0 ws (omega (arith, a .pre .2)) ∙ placed-whole (now (a .args .row)) ws (a .pre .2) ∙ e
+    sets-placed (now (a .args .row)) 0 ws (omega (arith, a .pre .2)) ∙ placed-whole (now (a .args .row)) ws (a .pre .2) ∙ e
 
 pub write-bell-spec : {M : Type 1} → statement M
 write-bell-spec =

@@ -6,7 +6,7 @@ use lib.ListN.{length-set}
 use Rattle.format.specs.Bytes.{be32}
 use Rattle.words.specs.internal.Placed.{placed}
 use Rattle.format.specs.Tables.{bellAt, demandWords}
-use Rattle.words.proofs.Placing.{stored}
+use Rattle.words.proofs.Placing.{sets-placed}
 use borrow.Author.Needs.{needs}
 use Rattle.format.proofs.notes.write_demand.Statement.{statement}
 use Rattle.format.proofs.notes.write_demand.Tie as tie
@@ -58,7 +58,7 @@ returns c =
     let b = bellAt (now (a .args .bell-row)) in
     let e : demandWords b (c .before .before .before .before .before .be-32 .result) (c .before .before .before .before .be-322 .result) (c .before .be-323 .result) ≡ demandWords b (be32 p 2) (be32 p 6) (be32 p 10) =
     λ i. demandWords b (c .before .before .before .before .before .be-32 .ensures i) (c .before .before .before .before .be-322 .ensures i) (c .before .be-323 .ensures i) in
-    stored (now (a .args .row)) 0 (demandWords b (c .before .before .before .before .before .be-32 .result) (c .before .before .before .before .be-322 .result) (c .before .be-323 .result)) (omega (arith, a .pre .2)) ∙ ap (placed (now (a .args .row)) 0) e
+    sets-placed (now (a .args .row)) 0 (demandWords b (c .before .before .before .before .before .be-32 .result) (c .before .before .before .before .be-322 .result) (c .before .be-323 .result)) (omega (arith, a .pre .2)) ∙ ap (placed (now (a .args .row)) 0) e
 
 pub write-demand-spec : {M : Type 1} → statement M
 write-demand-spec =

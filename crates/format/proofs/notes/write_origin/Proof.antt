@@ -6,7 +6,7 @@ use mathlib.Core.List.{[], _∷_}
 use Rattle.format.specs.Reading.{noteIn}
 use Rattle.words.specs.internal.Placed.{placed}
 use Rattle.format.specs.Tables.{bellWord, originWords}
-use Rattle.words.proofs.Placing.{stored}
+use Rattle.words.proofs.Placing.{sets-placed}
 use borrow.Author.Needs.{needs}
 use Rattle.format.proofs.notes.write_origin.Statement.{statement}
 use Rattle.format.proofs.notes.write_origin.Tie as tie
@@ -39,7 +39,7 @@ returns c =
     let p = now (a .args .part) in
     let e : a .args .bell ∷ c .before .byte .result ∷ c .listed-count .result ∷ 0 ∷ [] ≡ originWords (noteIn p (a .args .bell)) =
     λ i. a .args .bell ∷ c .before .byte .ensures .0 i ∷ c .listed-count .ensures i ∷ 0 ∷ [] in
-    stored (now (a .args .row)) bellWord (a .args .bell ∷ c .before .byte .result ∷ c .listed-count .result ∷ 0 ∷ []) (omega (arith, a .pre .1)) ∙ ap (placed (now (a .args .row)) bellWord) e
+    sets-placed (now (a .args .row)) bellWord (a .args .bell ∷ c .before .byte .result ∷ c .listed-count .result ∷ 0 ∷ []) (omega (arith, a .pre .1)) ∙ ap (placed (now (a .args .row)) bellWord) e
 
 pub write-origin-spec : {M : Type 1} → statement M
 write-origin-spec =

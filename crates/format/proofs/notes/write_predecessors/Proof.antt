@@ -12,7 +12,7 @@ use Rattle.format.specs.Rows.{mostPredecessors}
 use Rattle.format.specs.Results.{optionOf}
 use Rattle.words.specs.internal.Placed.{placed}
 use Rattle.format.specs.Tables.{countWord, predecessorWords}
-use Rattle.words.proofs.Placing.{stored}
+use Rattle.words.proofs.Placing.{sets-placed}
 use Rattle.format.proofs.Listed.{listed-few, padded-length, five-words}
 use Rattle.format.proofs.JobRows.{few}
 use borrow.Author.Needs.{needs}
@@ -96,7 +96,7 @@ returns c =
     let all = listedIn p ++ asList (optionOf (a .args .earlier)) in
     let l : length (padded mostPredecessors all) ≡ 5 = padded-length mostPredecessors all (few (listedIn p) (optionOf (a .args .earlier)) (listed-few p (a .pre .0))) in
     let e : words (r .count) (r .jobs) ≡ predecessorWords all = (λ i. words (q i .count) (q i .jobs)) ∙ ap (λ w. length all ∷ w) (five-words (padded mostPredecessors all) l) in
-    stored (now (a .args .row)) countWord (words (r .count) (r .jobs)) (omega (arith, a .pre .1)) ∙ ap (placed (now (a .args .row)) countWord) e
+    sets-placed (now (a .args .row)) countWord (words (r .count) (r .jobs)) (omega (arith, a .pre .1)) ∙ ap (placed (now (a .args .row)) countWord) e
 
 pub write-predecessors-spec : {M : Type 1} → statement M
 write-predecessors-spec =

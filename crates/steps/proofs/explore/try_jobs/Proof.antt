@@ -10,8 +10,8 @@ use Rattle.model.specs.Edges.{candidate}
 use Rattle.edges.specs.internal.Edges.{Prepared}
 use Rattle.edges.proofs.Listing.{listed-candidate}
 use Rattle.steps.specs.internal.Progress.{jobsIn, stateIn, goingIn}
-use Rattle.steps.specs.declared.step.Step.{Step}
-use Rattle.steps.specs.declared.step.Step.the-variants.{Going}
+use Rattle.steps.specs.declared.progress.Progress.{Progress}
+use Rattle.steps.specs.declared.progress.Progress.the-variants.{Going}
 use Rattle.steps.proofs.Following.{Tried, tried-more, tried-all, tried-enough}
 use Rattle.steps.proofs.explore.try_jobs.Statement.{statement}
 use Rattle.steps.proofs.explore.try_jobs.Tie as tie
@@ -68,8 +68,8 @@ try-job-requires c κs =
     let i = c .before .before .before .before .before .before .loop .inv .1 in
     (asked (c .before .before .before .before .before) .0, record { setting = p .setting; words = p .words; sound = p .sound; target = i .sound; observed = i .observed }, c .before .before .before .edge-of .ensures)
 
-enum-known-step : tie.Need-enum-known-step Inv-loop μ-loop
-enum-known-step c = search needs
+enum-known-progress : tie.Need-enum-known-progress Inv-loop μ-loop
+enum-known-progress c = search needs
 
 -- ---- what it leaves
 
@@ -111,7 +111,7 @@ loop-again : tie.Need-loop-again Inv-loop μ-loop
 loop-again c =
     let a = entry (c .before .before .before .before .before .before .before .before .before .before .before .before .before .before .before) .args in (
       omega (arith, c .before .before .before .before .before .before .before .before .before .before .before .before .before .before .before .loop-test .taken),
-      subst (λ (z : Step). Tried (jobsIn (a .shape) (now (a .rows))) (a .shape) (stateIn (a .shape) (now (a .cur))) (now (a .list)) (λ x. goingIn (a .shape) (now (a .half)) (a .n) (now (a .seen)) x) (c .before .before .before .before .before .before .before .before .before .before .before .before .before .before .before .before .loop .t + 1) z (c .before .before .before .before .before .before .before .before .before .try-job .last .0) (c .before .before .before .before .before .before .before .before .before .try-job .last .1 .0) (c .before .before .before .before .before .before .before .before .before .try-job .last .1 .1 .0)) (c .before .step .given .1) (more (c .before .before .before .before .before .before .before .before .before)),
+      subst (λ (z : Progress). Tried (jobsIn (a .shape) (now (a .rows))) (a .shape) (stateIn (a .shape) (now (a .cur))) (now (a .list)) (λ x. goingIn (a .shape) (now (a .half)) (a .n) (now (a .seen)) x) (c .before .before .before .before .before .before .before .before .before .before .before .before .before .before .before .before .loop .t + 1) z (c .before .before .before .before .before .before .before .before .before .try-job .last .0) (c .before .before .before .before .before .before .before .before .before .try-job .last .1 .0) (c .before .before .before .before .before .before .before .before .before .try-job .last .1 .1 .0)) (c .before .progress .given .1) (more (c .before .before .before .before .before .before .before .before .before)),
     )
 
 -- ---- after the last
@@ -143,7 +143,7 @@ try-jobs-spec =
     cast-i
     edge-of-requires
     try-job-requires
-    enum-known-step
+    enum-known-progress
     same-length
     same-length-2
     same-length-3

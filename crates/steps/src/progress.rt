@@ -1,5 +1,5 @@
 // What exploring leaves in the half of the next level.
-pub enum Step {
+pub enum Progress {
     // It holds so many states.
     Going(usize),
     // It has no room for a state of this level.

@@ -10,7 +10,7 @@ use lib.ListN.{length, drop}
 use borrow.Rule.Slice.PartMut.{putMid}
 use Rattle.model.specs.Jobs.{Job}
 use Rattle.model.specs.Exploration.{Exploration, going, full, miss, tryStates, counted, nextLevel, explored, Verdict, accepted, refused, late, verdictOf, analysis, stateWords}
-use Rattle.model.proofs.Coverage.{climb}
+use Rattle.model.proofs.Coverage.{kept-from}
 use Rattle.words.proofs.Tabulate.{length-tabulate}
 use Rattle.words.proofs.Parts.{part-length, drop-after}
 use Rattle.words.specs.internal.Parts.{part}
@@ -19,9 +19,9 @@ use Rattle.jobs.proofs.Jobs.{length-jobs}
 use Rattle.states.specs.internal.Slots.{stateOf, slotOf, statesOf}
 use Rattle.steps.specs.internal.Observed.{observedOf, Observed}
 use Rattle.steps.specs.internal.Progress.{progressOf, Half, HalfAt, Leaves}
-use Rattle.analysis.specs.internal.Outcomes.{Halves}
-use Rattle.steps.specs.declared.step.Step.{Step}
-use Rattle.steps.specs.declared.step.Step.the-variants.{Going, Full, Late}
+use Rattle.analysis.specs.internal.Answers.{Halves}
+use Rattle.steps.specs.declared.progress.Progress.{Progress}
+use Rattle.steps.specs.declared.progress.Progress.the-variants.{Going, Full, Late}
 use Rattle.steps.proofs.Following.{Stopped}
 use Rattle.analysis.proofs.Building.{shaped}
 use Rattle.analysis.proofs.Halves.{Roles, roles-apart, roles-change}
@@ -39,7 +39,7 @@ module _ (js : List Job) (m cap : ℕ) where
   pub stops : (l : ℕ) (x : Exploration) → Stopped x → l ≤ length js → x ≡ explored js m cap l → verdictOf x ≡ analysis js m cap
   unfolding analysis explored
   stops l x h b e =
-      ap verdictOf (climb (λ j. x ≡ explored js m cap j) (λ j p. sym (next-stopped x h) ∙ ap (nextLevel js cap) p) l (length js) b e)
+      ap verdictOf (kept-from (λ j. x ≡ explored js m cap j) (λ j p. sym (next-stopped x h) ∙ ap (nextLevel js cap) p) l (length js) b e)
 
   next-of : (l : ℕ) (x : Exploration) → x ≡ explored js m cap l → nextLevel js cap x ≡ explored js m cap (l + 1)
   unfolding explored
@@ -53,7 +53,7 @@ counted-stopped (miss i e f) h = refl
 -- ---- the levels while they are built
 
 -- so many levels are complete; the last, of n states, is in the half that is read next
-pub record Climbing (rows : List ℕ) (k m cap : ℕ) (table₀ table seen : List ℕ) (from to n count level : ℕ) : Type 0 where
+pub record LevelsBuilt (rows : List ℕ) (k m cap : ℕ) (table₀ table seen : List ℕ) (from to n count level : ℕ) : Type 0 where
   pub room : 2 * (cap * stateWords m k) ≤ length table₀
   pub upto : level ≤ k
   pub long : length table ≡ length table₀
@@ -64,10 +64,10 @@ pub record Climbing (rows : List ℕ) (k m cap : ℕ) (table₀ table seen : Lis
   pub few : count ≤ 1 + level * cap
   pub same : going (statesOf m k (part from (cap * stateWords m k) table) n) (observedOf k seen) count ≡ explored (jobsOf rows k) m cap level
 
-pub climbing-starts : {rows : List ℕ} {k m cap : ℕ} {table seen : List ℕ} {w : ℕ} → 2 * (cap * stateWords m k) ≤ length table → w ≡ stateWords m k
+pub levels-begin : {rows : List ℕ} {k m cap : ℕ} {table seen : List ℕ} {w : ℕ} → 2 * (cap * stateWords m k) ≤ length table → w ≡ stateWords m k
     → Half (jobsOf rows k) m k cap (part 0 (cap * stateWords m k) table) 1 → Observed k seen
-    → going (statesOf m k (part 0 (cap * stateWords m k) table) 1) (observedOf k seen) 1 ≡ explored (jobsOf rows k) m cap 0 → Climbing rows k m cap table table seen 0 (cap * w) 1 1 0
-climbing-starts {cap = cap} r e h o s =
+    → going (statesOf m k (part 0 (cap * stateWords m k) table) 1) (observedOf k seen) 1 ≡ explored (jobsOf rows k) m cap 0 → LevelsBuilt rows k m cap table table seen 0 (cap * w) 1 1 0
+levels-begin {cap = cap} r e h o s =
     record {
       room = r;
       upto = omega arith;
@@ -80,7 +80,7 @@ climbing-starts {cap = cap} r e h o s =
       same = s;
     }
 
-module _ {rows : List ℕ} {k m cap : ℕ} {table₀ table seen : List ℕ} {from to n count level : ℕ} (before : Climbing rows k m cap table₀ table seen from to n count level) where
+module _ {rows : List ℕ} {k m cap : ℕ} {table₀ table seen : List ℕ} {from to n count level : ℕ} (before : LevelsBuilt rows k m cap table₀ table seen from to n count level) where
   abbrev js : List Job
   js = jobsOf rows k
 
@@ -97,13 +97,13 @@ module _ {rows : List ℕ} {k m cap : ℕ} {table₀ table seen : List ℕ} {fro
   pub halves-apart : Halves (length table) size from to
   halves-apart = sides .0
 
-  pub climbing-ends : k ≤ level → Answered (accepted (observedOf k seen) count) table seen
+  pub levels-end : k ≤ level → Answered (accepted (observedOf k seen) count) table seen
   unfolding analysis
-  climbing-ends h =
+  levels-end h =
       let e : level ≡ length js = omega (arith, before .upto, length-jobs rows k) in
       (ap verdictOf (before .same ∙ ap (explored js m cap) e), (before .observed, before .past))
 
-  module _ {r : Step} {table′ seen′ heads : List ℕ} (more : level < k) (kept : length table′ ≡ length table)
+  module _ {r : Progress} {table′ seen′ heads : List ℕ} (more : level < k) (kept : length table′ ≡ length table)
       (leaves : Leaves js (shaped k m cap) (λ c. tryStates js cap (statesOf m k (part from size table) n) (going [] (observedOf k seen) c)) r (part to size table′) seen′ heads)
       (frame : table′ ≡ putMid to size table (part to size table′)) where
     next : counted (progressOf m k (observedOf k seen′) count r (part to size table′)) ≡ explored js m cap (level + 1)
@@ -117,7 +117,7 @@ module _ {rows : List ℕ} {k m cap : ℕ} {table₀ table seen : List ℕ} {fro
 
     module _ {x : ℕ} (e : r ≡ Going x) where
       half : Half js m k cap (part to size table′) x
-      half = subst (λ (z : Step). HalfAt js m k cap z (part to size table′) heads) e (leaves .sound) .0
+      half = subst (λ (z : Progress). HalfAt js m k cap z (part to size table′) heads) e (leaves .sound) .0
 
       few : count + x ≤ 1 + (level + 1) * cap
       few = omega (arith, ap (λ (z : ℕ). z * cap) (add-one level) ∙ suc-mul level cap, before .few, half .room)
@@ -128,9 +128,9 @@ module _ {rows : List ℕ} {k m cap : ℕ} {table₀ table seen : List ℕ} {fro
           let q : (level + 1) * cap ≤ stateWords m k * cap = mul-le-mul-right cap (omega arith) in
           omega (arith, few, q, mul-comm (stateWords m k) cap, before .room)
 
-      pub climbing-goes-on : Climbing rows k m cap table₀ table′ seen′ to from x (count + x) (level + 1)
+      pub levels-go-on : LevelsBuilt rows k m cap table₀ table′ seen′ to from x (count + x) (level + 1)
       unfolding statesOf
-      climbing-goes-on =
+      levels-go-on =
           record {
             room = before .room;
             upto = omega arith;
@@ -143,17 +143,17 @@ module _ {rows : List ℕ} {k m cap : ℕ} {table₀ table seen : List ℕ} {fro
             same =
                 ap (λ (z : ℕ). going (statesOf m k (part to size table′) x) (observedOf k seen′) (count + z))
                 (sym (length-tabulate (λ (j : ℕ). stateOf m k (slotOf m k (part to size table′) j)) 0 x))
-                ∙ ap (λ (z : Step). counted (progressOf m k (observedOf k seen′) count z (part to size table′))) (sym e) ∙ next;
+                ∙ ap (λ (z : Progress). counted (progressOf m k (observedOf k seen′) count z (part to size table′))) (sym e) ∙ next;
           }
 
-    stopped : (end : Step) → r ≡ end → Stopped (progressOf m k (observedOf k seen′) count end (part to size table′)) → verdictOf (progressOf m k (observedOf k seen′) count end (part to size table′)) ≡ analysis js m cap
+    stopped : (end : Progress) → r ≡ end → Stopped (progressOf m k (observedOf k seen′) count end (part to size table′)) → verdictOf (progressOf m k (observedOf k seen′) count end (part to size table′)) ≡ analysis js m cap
     stopped end e h =
         stops js m cap (level + 1) (progressOf m k (observedOf k seen′) count end (part to size table′)) h (omega (arith, length-jobs rows k))
         (sym (counted-stopped (progressOf m k (observedOf k seen′) count end (part to size table′)) h)
-        ∙ ap (λ (z : Step). counted (progressOf m k (observedOf k seen′) count z (part to size table′))) (sym e) ∙ next)
+        ∙ ap (λ (z : Progress). counted (progressOf m k (observedOf k seen′) count z (part to size table′))) (sym e) ∙ next)
 
-    pub climbing-full : {l : ℕ} → r ≡ Full l → Answered (refused 13 l) table′ seen′
-    climbing-full {l} e = (stopped (Full l) e tt, (leaves .observed, past))
+    pub levels-full : {l : ℕ} → r ≡ Full l → Answered (refused 13 l) table′ seen′
+    levels-full {l} e = (stopped (Full l) e tt, (leaves .observed, past))
 
-    pub climbing-late : {i early last : ℕ} → r ≡ Late i early last → Answered (late i early last) table′ seen′
-    climbing-late {i} {early} {last} e = (stopped (Late i early last) e tt, (leaves .observed, past))
+    pub levels-late : {i early last : ℕ} → r ≡ Late i early last → Answered (late i early last) table′ seen′
+    levels-late {i} {early} {last} e = (stopped (Late i early last) e tt, (leaves .observed, past))

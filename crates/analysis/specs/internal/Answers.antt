@@ -5,8 +5,8 @@ use mathlib.Core.List.{List}
 use Rattle.model.specs.Exploration.{Verdict, accepted, refused, late, stateWords}
 use Rattle.steps.specs.internal.Observed.{observedOf}
 use Rattle.steps.specs.declared.shape.Shape.{Shape}
-use Rattle.analysis.specs.declared.levels.Outcome.{Outcome}
-use Rattle.analysis.specs.declared.levels.Outcome.the-variants.{Accepted, Full, Late}
+use Rattle.analysis.specs.declared.levels.Analysed.{Analysed}
+use Rattle.analysis.specs.declared.levels.Analysed.the-variants.{Accepted, Full, Late}
 
 -- the words of a half
 abbrev pub halfWords : Shape → ℕ
@@ -18,7 +18,7 @@ pub record Halves (words size from to : ℕ) : Type 0 where
   pub target : to + size ≤ words
   pub apart : (from + size ≤ to) ⊎ (to + size ≤ from)
 
-abbrev pub verdictIn : ℕ → Outcome → List ℕ → Verdict
+abbrev pub verdictIn : ℕ → Analysed → List ℕ → Verdict
 verdictIn k (Accepted c) seen = accepted (observedOf k seen) c
 verdictIn k (Full l) seen = refused 13 l
 verdictIn k (Late i e f) seen = late i e f

@@ -1,4 +1,4 @@
--- `climb_levels` meets its contract: before each level, what is stored is the definition's level before it. Assumes nothing.
+-- `build_levels` meets its contract: before each level, what is stored is the definition's level before it. Assumes nothing.
 use Prim.Native.Nat.{ℕ, _*_, _-_}
 use mathlib.Core.Path.{_≡_, sym, ap, _∙_}
 use native.Mathlib.Omega.{arith}
@@ -6,13 +6,13 @@ use lib.ListN.{length, length-replicate}
 use denote.Ref.{now}
 use borrow.Author.Needs.{needs}
 use Rattle.store.specs.internal.Half.{buckets}
-use Rattle.analysis.proofs.Climbing.{Climbing, climbing-starts, climbing-ends, halves-apart, count-fits, climbing-goes-on, climbing-full, climbing-late}
-use Rattle.analysis.proofs.levels.climb_levels.Statement.{statement}
-use Rattle.analysis.proofs.levels.climb_levels.Tie as tie
+use Rattle.analysis.proofs.LevelsBuilt.{LevelsBuilt, levels-begin, levels-end, halves-apart, count-fits, levels-go-on, levels-full, levels-late}
+use Rattle.analysis.proofs.levels.build_levels.Statement.{statement}
+use Rattle.analysis.proofs.levels.build_levels.Tie as tie
 
 abbrev Inv-loop : tie.InvT-loop
 Inv-loop table₀ seen₀ rows shape m k capacity w sets from₀ to₀ n₀ count₀ depth₀ heads₀ table seen from to n count depth heads =
-    Climbing rows (shape .jobs) (shape .cores) (shape .capacity) table₀ table seen from to n count depth × (length heads ≡ buckets)
+    LevelsBuilt rows (shape .jobs) (shape .cores) (shape .capacity) table₀ table seen from to n count depth × (length heads ≡ buckets)
 
 abbrev μ-loop : tie.MeasureT-loop
 μ-loop table₀ seen₀ rows shape m k capacity w sets from₀ to₀ n₀ count₀ depth₀ heads₀ table seen from to n count depth heads = k - depth
@@ -33,7 +33,7 @@ mul-to c = omega (arith, ap (λ (z : ℕ). c .before .before .before .before .be
 loop-holds : tie.Need-loop-holds Inv-loop μ-loop
 loop-holds c =
     let a = c .before .before .before .before .before .before .before in
-    (climbing-starts (a .pre .0 .1) (c .before .before .before .state-words .ensures) (a .pre .0 .2) (a .pre .0 .3) (a .pre .1), length-replicate {A = ℕ} buckets 0)
+    (levels-begin (a .pre .0 .1) (c .before .before .before .state-words .ensures) (a .pre .0 .2) (a .pre .0 .3) (a .pre .1), length-replicate {A = ℕ} buckets 0)
 
 slice-aggregate-build-level : tie.Need-slice-aggregate-build-level Inv-loop μ-loop
 slice-aggregate-build-level c = search needs
@@ -89,7 +89,7 @@ returns : tie.Need-returns Inv-loop μ-loop
 returns c =
     let x = c .before .before .before .before .before .before .before .before in
     let y = x .build-level in
-    climbing-full (turn x .before .loop .inv .0) (turn x .loop-test .taken) (y .kept .0) (y .ensures .0) (y .ensures .1) (c .before .l .given .1)
+    levels-full (turn x .before .loop .inv .0) (turn x .loop-test .taken) (y .kept .0) (y .ensures .0) (y .ensures .1) (c .before .l .given .1)
 
 enum-known-i : tie.Need-enum-known-i Inv-loop μ-loop
 enum-known-i c = search needs
@@ -104,7 +104,7 @@ returns-2 : tie.Need-returns-2 Inv-loop μ-loop
 returns-2 c =
     let x = c .before .before .before .before .before .before .before .before in
     let y = x .build-level in
-    climbing-late (turn x .before .loop .inv .0) (turn x .loop-test .taken) (y .kept .0) (y .ensures .0) (y .ensures .1) (c .before .i .given .1)
+    levels-late (turn x .before .loop .inv .0) (turn x .loop-test .taken) (y .kept .0) (y .ensures .0) (y .ensures .1) (c .before .i .given .1)
 
 add-depth : tie.Need-add-depth Inv-loop μ-loop
 add-depth c = omega (arith, turn (c .before .before .before .before .before .before .before .before) .loop-test .taken, first (c .before .before .before .before .before .before .before .before) .pre .0 .0 .jobs)
@@ -117,7 +117,7 @@ loop-again c =
     let x = c .before .before .before .before .before .before .before .before in
     let y = x .build-level in
     let i = turn x .before .loop .inv in
-    (climbing-goes-on (i .0) (turn x .loop-test .taken) (y .kept .0) (y .ensures .0) (y .ensures .1) (c .before .x .given .1), y .kept .1 .1 .0 ∙ i .1)
+    (levels-go-on (i .0) (turn x .loop-test .taken) (y .kept .0) (y .ensures .0) (y .ensures .1) (c .before .x .given .1), y .kept .1 .1 .0 ∙ i .1)
 
 -- ---- after the last level
 
@@ -130,10 +130,10 @@ same-length-6 c = c .before .loop .inv .0 .observed .long ∙ sym (c .before .be
 returns-3 : tie.Need-returns-3 Inv-loop μ-loop
 returns-3 c =
     let i = c .before .loop in
-    climbing-ends (i .inv .0) (c .loop-test .left)
+    levels-end (i .inv .0) (c .loop-test .left)
 
-pub climb-levels-spec : {M : Type 1} → statement M
-climb-levels-spec =
+pub build-levels-spec : {M : Type 1} → statement M
+build-levels-spec =
     tie.close
     (tie.spec
     Inv-loop
