@@ -80,6 +80,7 @@ pub record Building (rows : List ℕ) (k m cap from to n : ℕ) (table₀ seen�
       tryStates (jobsOf rows k) cap (tabulate (λ (i : ℕ). stateOf m k (slotOf m k (part from (cap * stateWords m k) table₀) i)) j (n - j)) (going (statesOf m k (part to (cap * stateWords m k) table) built) (observedOf k seen) c)
       ≡ tryStates (jobsOf rows k) cap (statesOf m k (part from (cap * stateWords m k) table₀) n) (going [] (observedOf k seen₀) c)
 
+-- before the first state, nothing is built
 pub building-starts : {rows : List ℕ} {k m cap from to n : ℕ} {table seen heads : List ℕ} → Halves (length table) (cap * stateWords m k) from to
     → Half (jobsOf rows k) m k cap (part from (cap * stateWords m k) table) n → Observed k seen → length heads ≡ buckets → Building rows k m cap from to n table seen table seen heads 0 0
 unfolding statesOf tabulate
@@ -128,6 +129,7 @@ module _ {rows : List ℕ} {k m cap from to n : ℕ} {table₀ seen₀ table see
   target-long : length (part to size table) ≡ size
   target-long = part-length to size table (omega (arith, before .halves .target, before .long))
 
+  -- after the last, the level is built
   pub building-ends : n ≤ j → Built (Going built) table seen heads
   building-ends h = (
     record { same = λ c. sym (states-end js cap source n j (going (statesOf m k (part to size table) built) (observedOf k seen) c) h) ∙ before .rest c; sound = before .target; observed = before .observed },
@@ -150,9 +152,11 @@ module _ {rows : List ℕ} {k m cap from to n : ℕ} {table₀ seen₀ table see
     spans : span ≡ size
     spans = ap (λ (z : ℕ). to + cap * z - to) wide ∙ cut to size
 
+    -- the state that is read lies in the table
     pub read-inside : at + w ≤ length table
     read-inside = rw wide (omega (arith, source-inside more, before .long))
 
+    -- the half that is lent is the one that is built
     pub target-half : Target js m k cap (part to span table) heads built
     target-half = rw spans (before .target)
 
@@ -189,6 +193,7 @@ module _ {rows : List ℕ} {k m cap from to n : ℕ} {table₀ seen₀ table see
         sized : table′ ≡ putMid to size table half
         sized = ap (λ (z : ℕ). putMid to z table half) spans
 
+        -- the table keeps its length
         pub table-long : length table′ ≡ length table₀
         table-long = ap length sized ∙ length-put to size table half fits half-long ∙ before .long
 
@@ -209,6 +214,7 @@ module _ {rows : List ℕ} {k m cap from to n : ℕ} {table₀ seen₀ table see
             ∙ ap (λ (σ : State). tryJobs js cap σ k x) in-hand ∙ ap (λ (z : ℕ). tryJobs js cap (source j) z x) (sym (length-jobs rows k)))
             ∙ sym (states-on js cap source n j x more) ∙ before .rest c
 
+        -- a step that goes on leaves one state more explored
         pub building-goes-on : {count : ℕ} → r ≡ Going count → Building rows k m cap from to n table₀ seen₀ table′ seen′ heads′ count (j + 1)
         building-goes-on {count} e =
             record {

@@ -38,15 +38,18 @@ source-kept size from to b w t ys h l g =
 
 -- ---- the halves change roles
 
+-- one half is the lower one and the other the upper
 abbrev pub Roles : ℕ → ℕ → ℕ → Type 0
 Roles size from to = ((from ≡ 0) × (to ≡ size)) ⊎ ((from ≡ size) × (to ≡ 0))
 
+-- the two lie in the table, apart from each other
 pub roles-apart : (words size from to : ℕ) → 2 * size ≤ words → Roles size from to → Halves words size from to × (to + size ≤ 2 * size)
 roles-apart words size from to h (inl e) =
     (record { source = omega (arith, e .0); target = omega (arith, e .1); apart = inl (omega (arith, e .0, e .1)) }, omega (arith, e .1))
 roles-apart words size from to h (inr e) =
     (record { source = omega (arith, e .0); target = omega (arith, e .1); apart = inr (omega (arith, e .0, e .1)) }, omega (arith, e .1))
 
+-- they stay so when they change roles
 pub roles-change : (size from to : ℕ) → Roles size from to → Roles size to from
 roles-change size from to (inl e) = inr (e .1, e .0)
 roles-change size from to (inr e) = inl (e .1, e .0)

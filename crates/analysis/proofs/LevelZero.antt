@@ -30,6 +30,7 @@ use Rattle.steps.specs.internal.Progress.{Half}
 use Rattle.analysis.proofs.Halves.{part-part}
 use Rattle.analysis.proofs.LevelsBuilt.{stops}
 
+-- n words of 0
 abbrev pub zeros : ℕ → List ℕ
 zeros n = replicate n 0
 
@@ -75,6 +76,7 @@ zeros-observed k n =
     tabulate-is (observedAt (zeros n)) k (replicate k empty) empty (length-replicate k empty)
     (λ i h. rw (at-zero n (mostJobs + i)) (sym (getD-same k i empty)))
 
+-- zeros say that nothing was observed
 pub nothing-observed : {k : ℕ} {seen : List ℕ} → seen ≡ zeros observedWords → Observed k seen
 nothing-observed e =
     record {
@@ -116,6 +118,7 @@ module _ (rows : List ℕ) (k m : ℕ) (table : List ℕ) {w : ℕ} (wide : w �
   by-capacity : cap ≡ capacity (length table) m k
   by-capacity = ap (λ (z : ℕ). length table / (2 * z)) wide
 
+  -- with no room for one state, level 0 is full
   pub no-room : {seen : List ℕ} → Observed k seen → cap ≡ 0 → Answered (refused 13 0) table seen
   unfolding explored limited
   no-room o e =
@@ -134,6 +137,7 @@ module _ (rows : List ℕ) (k m : ℕ) (table : List ℕ) {w : ℕ} (wide : w �
     one-fits : width ≤ cap * width
     one-fits = omega (arith, mul-le-mul-right width some, one-mul width)
 
+    -- the first state lies in the table
     pub first-inside : w ≤ length table
     first-inside = omega (arith, wide, one-fits, halves-fit)
 
@@ -160,6 +164,7 @@ module _ (rows : List ℕ) (k m : ℕ) (table : List ℕ) {w : ℕ} (wide : w �
       long : length cleared ≡ length table
       long = ap length sized ∙ length-put 0 width table first inside first-long
 
+      -- both halves lie in the cleared table
       pub cleared-room : 2 * (cap * width) ≤ length cleared
       cleared-room = omega (arith, long, halves-fit)
 
@@ -169,6 +174,7 @@ module _ (rows : List ℕ) (k m : ℕ) (table : List ℕ) {w : ℕ} (wide : w �
           ∙ part-part 0 (cap * width) 0 width cleared (omega (arith, one-fits)) (omega (arith, long, halves-fit))
           ∙ ap (part 0 width) sized ∙ part-same 0 width table first inside first-long ∙ first-zeros
 
+      -- the lower half holds one state
       pub first-half : TimedUpTo latestTime js → Half js m k cap (part 0 (cap * width) cleared) 1
       first-half timed =
           record {
@@ -180,6 +186,7 @@ module _ (rows : List ℕ) (k m : ℕ) (table : List ℕ) {w : ℕ} (wide : w �
           only : (j : ℕ) → j < 1 → j ≡ 0
           only j h = omega arith
 
+      -- it is level 0 of the definition
       pub first-level : {seen : List ℕ} → seen ≡ zeros observedWords → going (statesOf m k (part 0 (cap * width) cleared) 1) (observedOf k seen) 1 ≡ explored js m cap 0
       unfolding statesOf tabulate explored limited
       first-level {seen} none =
@@ -187,6 +194,7 @@ module _ (rows : List ℕ) (k m : ℕ) (table : List ℕ) {w : ℕ} (wide : w �
           (ap (λ (σ : State). going (σ ∷ []) (observedOf k seen) 1) (ap (stateOf m k) slot ∙ zeros-state m k)
           ∙ ap (λ (l : List Range). going (initial m k ∷ []) l 1) (ap (observedOf k) none ∙ zeros-observed k observedWords))
 
+      -- what the levels answer is the answer for the whole table
       pub answered : {a : Verdict} {seen : List ℕ} (t : List ℕ) → a ≡ analysis js m cap → Observed k seen → drop (2 * (cap * width)) t ≡ drop (2 * (cap * width)) cleared → Answered a t seen
       answered {a} {seen} t e o d =
           let p : drop (2 * (cap * width)) t ≡ drop (2 * (cap * width)) table =

@@ -64,6 +64,7 @@ pub record LevelsBuilt (rows : List ℕ) (k m cap : ℕ) (table₀ table seen : 
   pub few : count ≤ 1 + level * cap
   pub same : going (statesOf m k (part from (cap * stateWords m k) table) n) (observedOf k seen) count ≡ explored (jobsOf rows k) m cap level
 
+-- before the first, level 0 is complete
 pub levels-begin : {rows : List ℕ} {k m cap : ℕ} {table seen : List ℕ} {w : ℕ} → 2 * (cap * stateWords m k) ≤ length table → w ≡ stateWords m k
     → Half (jobsOf rows k) m k cap (part 0 (cap * stateWords m k) table) 1 → Observed k seen
     → going (statesOf m k (part 0 (cap * stateWords m k) table) 1) (observedOf k seen) 1 ≡ explored (jobsOf rows k) m cap 0 → LevelsBuilt rows k m cap table table seen 0 (cap * w) 1 1 0
@@ -94,9 +95,11 @@ module _ {rows : List ℕ} {k m cap : ℕ} {table₀ table seen : List ℕ} {fro
   sides : Halves (length table) size from to × (to + size ≤ 2 * size)
   sides = roles-apart (length table) size from to (omega (arith, before .long, before .room)) (before .roles)
 
+  -- the two halves lie in the table, apart from each other
   pub halves-apart : Halves (length table) size from to
   halves-apart = sides .0
 
+  -- after the last, the analysis accepts
   pub levels-end : k ≤ level → Answered (accepted (observedOf k seen) count) table seen
   unfolding analysis
   levels-end h =
@@ -128,6 +131,7 @@ module _ {rows : List ℕ} {k m cap : ℕ} {table₀ table seen : List ℕ} {fro
           let q : (level + 1) * cap ≤ stateWords m k * cap = mul-le-mul-right cap (omega arith) in
           omega (arith, few, q, mul-comm (stateWords m k) cap, before .room)
 
+      -- a level that goes on is complete, and the halves change roles
       pub levels-go-on : LevelsBuilt rows k m cap table₀ table′ seen′ to from x (count + x) (level + 1)
       unfolding statesOf
       levels-go-on =
@@ -152,8 +156,10 @@ module _ {rows : List ℕ} {k m cap : ℕ} {table₀ table seen : List ℕ} {fro
         (sym (counted-stopped (progressOf m k (observedOf k seen′) count end (part to size table′)) h)
         ∙ ap (λ (z : Progress). counted (progressOf m k (observedOf k seen′) count z (part to size table′))) (sym e) ∙ next)
 
+    -- a level that is full ends the analysis
     pub levels-full : {l : ℕ} → r ≡ Full l → Answered (refused 13 l) table′ seen′
     levels-full {l} e = (stopped (Full l) e tt, (leaves .observed, past))
 
+    -- and so does a late job
     pub levels-late : {i early last : ℕ} → r ≡ Late i early last → Answered (late i early last) table′ seen′
     levels-late {i} {early} {last} e = (stopped (Late i early last) e tt, (leaves .observed, past))

@@ -25,10 +25,12 @@ use Rattle.states.proofs.Bits.{in-meet, in-union, in-one, same-set}
 -- ---- the set of a list's elements: each is in the set r, or left in the list from index j on
 
 module _ (l : List ℕ) (j r : ℕ) (left : (w : ℕ) → member w l ≡ (inSet r w || member w (drop j l))) where
+  -- with no element left, the set has the elements of the list
   pub joined-all : length l ≤ j → (w : ℕ) → inSet r w ≡ member w l
   unfolding member
   joined-all h w = sym (left w ∙ rw (drop-of-length-le l h, or-false))
 
+  -- the next element is joined to the set
   pub join-next : j < length l → (w : ℕ) → member w l ≡ (inSet (bitOr r (2 ^ getD l j 0)) w || member w (drop (j + 1) l))
   unfolding member
   join-next h w = left w ∙ rw (add-one, drop-cons l j 0 h, in-union, in-one, or-assoc)
@@ -65,6 +67,7 @@ module _ (js : List Job) (j needed : ℕ) (p : PredecessorSet js j needed) where
     met : (w : ℕ) → inSet (bitAnd (bitOr needed (2 ^ j)) set) w ≡ ((inSet needed w || eqb w j) && inSet set w)
     met w = rw (in-meet, in-union, in-one)
 
+    -- the comparison tells whether the job has not started and all its predecessors have
     pub candidate-test : eqb (bitAnd (bitOr needed (2 ^ j)) set) needed ≡ (not (inSet set j) && every (inSet set) (predecessors js j))
     candidate-test = equal _ _ there back
       where

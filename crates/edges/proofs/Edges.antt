@@ -23,12 +23,14 @@ use Rattle.edges.proofs.Folds.{smallestIn, smallest-listed}
 -- ---- the smallest over the listed candidates
 
 module _ (js : List Job) (σ : State) (k : ℕ) (list : List ℕ) (listed : list ≡ candidates js σ k) (every-job : k ≡ length js) where
+  -- over the candidates, this is the first moment at which one is certainly ready
   pub first-listed : smallestIn all (certainlyReady js σ) list ≡ firstCertainlyReady js σ
   unfolding firstCertainlyReady
   first-listed =
       rw (listed, ← every-job)
       (smallest-listed (candidate js σ) all (candidate js σ) (certainlyReady js σ) (λ j. sym (and-true (candidate js σ j))) k)
 
+  -- over the candidates that go before job i, this is the higher-priority bound
   pub higher-listed : (i : ℕ) → smallestIn (λ j. before js j i) (certainlyReadyBeside js σ i) list ≡ higherPriorityBound js σ i
   unfolding higherPriorityBound
   higher-listed i =
@@ -45,10 +47,12 @@ first-of m at ws h = head (take m (drop at ws)) ∙ getD-take m (drop at ws) 0 0
     head (x ∷ xs) = refl
 
 module _ (m k : ℕ) (ws : List ℕ) (h : 1 ≤ m) where
+  -- the first lower availability, as a word
   pub first-possibly : first (stateOf m k ws .possiblyFree) ≡ getD ws possiblyAt 0
   unfolding stateOf
   first-possibly = first-of m possiblyAt ws h
 
+  -- the first upper availability, as a word
   pub first-certainly : first (stateOf m k ws .certainlyFree) ≡ getD ws (certainlyAt m) 0
   unfolding stateOf
   first-certainly = first-of m (certainlyAt m) ws h
@@ -57,6 +61,7 @@ module _ (js : List Job) (timed : TimedUpTo latestTime js) (σ : State) (g : Bou
   -- ---- the work-conserving bound, from the first moment that some candidate is certainly ready
 
   module _ (ready : ℕ) (r : ready ≡ limitWord (firstCertainlyReady js σ)) where
+    -- with no candidate, the bound is the first upper availability
     pub bound-without : ready ≡ noLimit → first (σ .certainlyFree) ≡ workConservingBound js σ
     unfolding workConservingBound firstCertainlyReady
     bound-without = go (firstCertainlyReady js σ) r (bound-up-to js latestTime timed σ g)
@@ -66,6 +71,7 @@ module _ (js : List Job) (timed : TimedUpTo latestTime js) (σ : State) (g : Bou
         go infinite q h e = omega arith
         go (finite x) q h e = omega arith
 
+    -- else it is the larger of that and the moment at which a candidate is certainly ready
     pub bound-with : (ready ≡ noLimit → ⊥) → max (first (σ .certainlyFree)) ready ≡ workConservingBound js σ
     unfolding workConservingBound firstCertainlyReady
     bound-with = go (firstCertainlyReady js σ) r
@@ -79,11 +85,13 @@ module _ (js : List Job) (timed : TimedUpTo latestTime js) (σ : State) (g : Bou
 
 module _ (js : List Job) (σ : State) (i : ℕ) where
   module _ (start bound : ℕ) (s : start ≡ earliestStart js σ i) (b : bound ≡ workConservingBound js σ) where
+    -- a job that cannot start by the work-conserving bound is not eligible
     pub past-the-bound : bound < start → NotEligible ≡ edgeOf js σ i
     unfolding edgeOf eligible
     past-the-bound h = rw (← s, ← b, lt-leb start bound h, and-false)
 
     module _ (higher : ℕ) (t : max start higher ≡ max start (limitWord (higherPriorityBound js σ i))) where
+      -- nor is one that the higher-priority bound holds back
       pub held-back : start ≤ latestTime → higher ≤ start → NotEligible ≡ edgeOf js σ i
       unfolding edgeOf eligible
       held-back early h = rw (← s, go (higherPriorityBound js σ i) t, and-false, and-false)
@@ -110,6 +118,7 @@ module _ (js : List Job) (σ : State) (i : ℕ) where
             go infinite q = omega arith
             go (finite y) q = rw q
 
+        -- any other candidate starts from its earliest start to the smaller bound
         pub starts : bound ≤ latestTime → candidate js σ i ≡ true → start ≤ bound → (last : ℕ) → last ≡ min bound (higher - 1)
             → Starts start last ≡ edgeOf js σ i
         unfolding edgeOf eligible latestStart

@@ -17,6 +17,7 @@ use Rattle.edges.proofs.Listing.{fold-listed, fold-turn}
 -- ---- the largest: the larger of r and what is left of the n elements, from index j on, is the whole
 
 module _ (p : ℕ → Bool) (f : ℕ → ℕ) (l : List ℕ) (whole : ℕ) where
+  -- the list has n elements, and r with those from index j on gives the whole
   abbrev pub LargestLeft : ℕ → ℕ → ℕ → Type 0
   LargestLeft n r j = (n ≡ length l) × (max r (largest p f (drop j l)) ≡ whole)
 
@@ -37,6 +38,7 @@ module _ (p : ℕ → Bool) (f : ℕ → ℕ) (l : List ℕ) (whole : ℕ) where
 abbrev lower : (ℕ → Bool) → (ℕ → ℕ) → Limit → ℕ → Limit
 lower q f x j = cond (q j) (folds.smaller (f j) x) x
 
+-- the smallest over the elements that pass
 abbrev pub smallestIn : (ℕ → Bool) → (ℕ → ℕ) → List ℕ → Limit
 smallestIn q f = foldl (lower q f) infinite
 
@@ -44,6 +46,7 @@ module _ (q : ℕ → Bool) (f : ℕ → ℕ) (l : List ℕ) (t r : ℕ) (h : t 
   turned : smallestIn q f (take (t + 1) l) ≡ lower q f (smallestIn q f (take t l)) (getD l t 0)
   turned = fold-turn (lower q f) infinite l t h
 
+  -- an element that passes lowers the limit to its own
   pub smallest-with : q (getD l t 0) ≡ true → f (getD l t 0) ≤ noLimit → min r (f (getD l t 0)) ≡ limitWord (smallestIn q f (take (t + 1) l))
   smallest-with e b = rw (turned, e, so-far) (go (smallestIn q f (take t l)))
     where
@@ -81,6 +84,7 @@ lowered q f (j ∷ l) y = go (q j) (lowered q f l)
     go true g = omega (arith, g (min (f j) y))
     go false g = g y
 
+-- later elements only lower it
 pub smallest-of-all : (q : ℕ → Bool) (f : ℕ → ℕ) (l : List ℕ) (t r : ℕ) → r ≡ limitWord (smallestIn q f (take t l)) → r < noLimit
     → limitWord (smallestIn q f l) ≤ r
 smallest-of-all q f l t r so-far h = rw (← take-append-drop t l, foldl-append) (go (smallestIn q f (take t l)) so-far)

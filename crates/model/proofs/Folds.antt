@@ -17,22 +17,27 @@ use Rattle.model.proofs.Booleans.{cases, and-left, and-right, and-both,
 
 -- ---- elements
 
+-- the first element is in the list
 pub member-here : (x : ℕ) (l : List ℕ) → member x (x ∷ l) ≡ true
 unfolding member
 member-here x l = or-left (eqb x x) (member x l) (eq-eqb x x refl)
 
+-- what is in the rest is in the list
 pub member-there : (w x : ℕ) (l : List ℕ) → member w l ≡ true → member w (x ∷ l) ≡ true
 unfolding member
 member-there w x l e = or-right (eqb w x) (member w l) e
 
+-- what is in the list is the first element or in the rest
 pub member-cases : (w x : ℕ) (l : List ℕ) → member w (x ∷ l) ≡ true → (w ≡ x) ⊎ (member w l ≡ true)
 unfolding member
 member-cases w x l e = ⊎-elim (λ q. inl (eqb-true w x q)) (λ q. inr q) (or-cases (eqb w x) (member w l) e)
 
+-- nothing is in the empty list
 pub not-in-nil : (w : ℕ) → member w [] ≡ true → ⊥
 unfolding member
 not-in-nil w e = false≢true e
 
+-- what is in two lists joined is in one of them
 pub member-append : (w : ℕ) (l r : List ℕ) → member w (l ++ r) ≡ true → (member w l ≡ true) ⊎ (member w r ≡ true)
 member-append w [] r e = inr e
 member-append w (x ∷ l) r e = go (member-cases w x (l ++ r) e) (λ q. member-append w l r q)
@@ -41,18 +46,21 @@ member-append w (x ∷ l) r e = go (member-cases w x (l ++ r) e) (λ q. member-a
     go (inl q) f = inl (rw q (member-here x l))
     go (inr q) f = ⊎-elim (λ h. inl (member-there w x l h)) (λ h. inr h) (f q)
 
+-- what is in the second list is in both joined
 pub append-member : (w : ℕ) (l r : List ℕ) → member w r ≡ true → member w (l ++ r) ≡ true
 append-member w [] r e = e
 append-member w (x ∷ l) r e = member-there w x (l ++ r) (append-member w l r e)
 
 -- ---- every
 
+-- what all pass, each passes
 pub every-out : (p : ℕ → Bool) (l : List ℕ) → every p l ≡ true → (w : ℕ) → member w l ≡ true → p w ≡ true
 unfolding every
 every-out p [] e w i = absurd (not-in-nil w i)
 every-out p (x ∷ xs) e w i =
     ⊎-elim (λ q. rw q (and-left (p x) (every p xs) e)) (λ q. every-out p xs (and-right (p x) (every p xs) e) w q) (member-cases w x xs i)
 
+-- what each passes, all pass
 pub every-in : (p : ℕ → Bool) (l : List ℕ) → ((w : ℕ) → member w l ≡ true → p w ≡ true) → every p l ≡ true
 unfolding every
 every-in p [] h = refl
@@ -60,6 +68,7 @@ every-in p (x ∷ xs) h = and-both (p x) (every p xs) (h x (member-here x xs)) (
 
 -- ---- the largest
 
+-- the largest is within a bound that each is within
 pub largest-le : (p : ℕ → Bool) (f : ℕ → ℕ) (l : List ℕ) (b : ℕ) → ((w : ℕ) → member w l ≡ true → f w ≤ b) → largest p f l ≤ b
 unfolding largest
 largest-le p f [] b h = omega arith
@@ -69,12 +78,14 @@ largest-le p f (x ∷ xs) b h = omega (arith, go (p x), largest-le p f xs b (λ 
     go true = h x (member-here x xs)
     go false = omega arith
 
+-- each that passes is at most the largest
 pub le-largest : (p : ℕ → Bool) (f : ℕ → ℕ) (l : List ℕ) (w : ℕ) → member w l ≡ true → p w ≡ true → f w ≤ largest p f l
 unfolding largest
 le-largest p f [] w i e = absurd (not-in-nil w i)
 le-largest p f (x ∷ xs) w i e =
     ⊎-elim (λ q. omega (arith, ap f q, ap (λ (c : Bool). cond c (f x) 0) (ap p (sym q) ∙ e))) (λ q. omega (arith, le-largest p f xs w q e)) (member-cases w x xs i)
 
+-- each element by its number is at most the largest
 pub at-largest : {A : Type 0} (f : A → ℕ) (l : List A) (k : ℕ) (d : A) → f d ≡ 0 → f (getD l k d) ≤ largest all f l
 unfolding largest
 at-largest f [] k d e = omega (arith, e)
@@ -100,6 +111,7 @@ attained-new p f n (finite y) e w = go (cases (leb (f n) y))
     go (inl q) = (n, omega arith, e, omega (arith, leb-true (f n) y q))
     go (inr q) = (w .0, omega (arith, w .1), w .2, omega (arith, leb-false (f n) y q, w .3))
 
+-- a finite smallest is reached by an element that passes
 pub smallest-attained : (p : ℕ → Bool) (f : ℕ → ℕ) (n : ℕ) → Attained p f n (smallest p f n)
 unfolding smallest
 smallest-attained p f zero = tt
@@ -109,6 +121,7 @@ smallest-attained p f (suc n) = go (p n) refl (smallest-attained p f n)
     go true e w = attained-new p f n (smallest p f n) e w
     go false e w = attained-more p f n (smallest p f n) w
 
+-- the limit is finite
 abbrev pub IsFinite : Limit → Type 0
 IsFinite infinite = ⊥
 IsFinite (finite x) = Unit {0}
@@ -117,6 +130,7 @@ smaller-finite : (x : ℕ) (l : Limit) → IsFinite (smaller x l)
 smaller-finite x infinite = tt
 smaller-finite x (finite y) = tt
 
+-- where one passes, the smallest is finite
 pub smallest-finite : (p : ℕ → Bool) (f : ℕ → ℕ) (n i : ℕ) → i < n → p i ≡ true → IsFinite (smallest p f n)
 unfolding smallest
 smallest-finite p f zero i h e = absurd (not-suc-le-zero h)
@@ -131,6 +145,7 @@ abbrev pub LimitUpTo : ℕ → Limit → Type 0
 LimitUpTo b infinite = Unit {0}
 LimitUpTo b (finite x) = x ≤ b
 
+-- the smallest is within a bound that each is within
 pub smallest-le : (p : ℕ → Bool) (f : ℕ → ℕ) (n b : ℕ) → ((k : ℕ) → k < n → f k ≤ b) → LimitUpTo b (smallest p f n)
 unfolding smallest
 smallest-le p f zero b h = tt
@@ -147,28 +162,33 @@ smallest-le p f (suc n) b h = go (p n) (smallest-le p f n b (λ k l. h k (omega 
 -- ---- counts
 
 module _ {A : Type 0} where
+  -- a count once one element is replaced
   pub count-set : (p : A → Bool) (l : List A) (i : ℕ) (a d : A) → i < length l → count p (set l i a) + ind (p (getD l i d)) ≡ count p l + ind (p a)
   unfolding count
   count-set p [] i a d h = absurd (not-suc-le-zero h)
   count-set p (x ∷ xs) zero a d h = omega arith
   count-set p (x ∷ xs) (suc i) a d h = omega (arith, count-set p xs i a d (le-of-suc-le-suc h))
 
+  -- a weaker test counts at least as many
   pub count-mono : (p q : A → Bool) (l : List A) → ((a : A) → ind (p a) ≤ ind (q a)) → count p l ≤ count q l
   unfolding count
   count-mono p q [] h = omega arith
   count-mono p q (x ∷ xs) h = omega (arith, h x, count-mono p q xs h)
 
+  -- a count is at most the length
   pub count-length : (p : A → Bool) (l : List A) → count p l ≤ length l
   unfolding count
   count-length p [] = omega arith
   count-length p (x ∷ xs) = omega (arith, ind-le (p x), count-length p xs)
 
+  -- a count is below the length where one element does not pass
   pub count-below : (p : A → Bool) (l : List A) (i : ℕ) (d : A) → i < length l → p (getD l i d) ≡ false → count p l < length l
   unfolding count
   count-below p [] i d h e = absurd (not-suc-le-zero h)
   count-below p (x ∷ xs) zero d h e = omega (arith, ap ind e, count-length p xs)
   count-below p (x ∷ xs) (suc i) d h e = omega (arith, ind-le (p x), count-below p xs i d (le-of-suc-le-suc h) e)
 
+  -- copies of what does not pass count nothing
   pub count-none : (p : A → Bool) (n : ℕ) (a : A) → p a ≡ false → count p (replicate n a) ≡ 0
   unfolding count
   count-none p zero a e = refl
@@ -184,6 +204,7 @@ module _ {A : Type 0} where
       go (yes e) = rw (e, getD-set-same l i a d h) x
       go (no e) = rw (getD-set-other l i k a d e) (f k)
 
+  -- every element of copies is the one copied
   pub getD-same : (n k : ℕ) (a : A) → getD (replicate n a) k a ≡ a
   getD-same zero k a = refl
   getD-same (suc n) zero a = refl
@@ -191,6 +212,7 @@ module _ {A : Type 0} where
 
 -- ---- numbers below a bound
 
+-- what holds below n, and at n, holds below n + 1
 pub below-suc : (P : ℕ → Type 0) (n : ℕ) → ((j : ℕ) → j < n → P j) → P n → (j : ℕ) → j < suc n → P j
 below-suc P n f x j h = go (ℕ-discrete j n)
   where

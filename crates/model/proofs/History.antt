@@ -15,13 +15,16 @@ use Rattle.model.specs.Guarantee.{statusAt}
 use Rattle.model.proofs.Booleans.{cases, and-left, and-right, and-both}
 use Rattle.model.proofs.Folds.{every-in, every-out, count-set}
 
+-- what is known of a job: it has not started, or when it started and when it finishes
 pub data Entry : Type 0 where
   unstarted : Entry
   ran : ℕ → ℕ → Entry
 
+-- the entry of job k
 abbrev pub entry : List Entry → ℕ → Entry
 entry h k = getD h k unstarted
 
+-- whether the job has started
 abbrev pub hasStarted : Entry → Bool
 hasStarted unstarted = false
 hasStarted (ran a f) = true
@@ -36,6 +39,7 @@ abbrev pub runsPast : ℕ → Entry → Bool
 runsPast t unstarted = false
 runsPast t (ran a f) = ltb t f
 
+-- how many started jobs finish after t
 abbrev pub busy : ℕ → List Entry → ℕ
 busy t h = count (runsPast t) h
 
@@ -103,10 +107,12 @@ view-passes t (ran a f) b = rw (view-begun t a f (b .0), view-begun (suc t) a f 
 
 -- ---- a start
 
+-- what has not started has not finished
 pub fresh-unfinished : (u : ℕ) (x : Entry) → hasStarted x ≡ false → Finished u x → ⊥
 fresh-unfinished u unstarted e f = f
 fresh-unfinished u (ran a b) e f = true≢false e
 
+-- what has not started is waiting
 pub fresh-waiting : (u : ℕ) (x : Entry) → hasStarted x ≡ false → view u x ≡ waiting
 fresh-waiting u unstarted e = refl
 fresh-waiting u (ran a f) e = absurd (true≢false e)
@@ -115,6 +121,7 @@ fresh-idle : (u : ℕ) (x : Entry) → hasStarted x ≡ false → ind (runsPast 
 fresh-idle u unstarted e = refl
 fresh-idle u (ran a b) e = absurd (true≢false e)
 
+-- a job that starts is busy until it finishes
 pub busy-start : (u : ℕ) (h : List Entry) (i a f : ℕ) → i < length h → hasStarted (entry h i) ≡ false → busy u (set h i (ran a f)) ≡ busy u h + ind (ltb u f)
 busy-start u h i a f b e = omega (arith, count-set (runsPast u) h i (ran a f) unstarted b, fresh-idle u (entry h i) e)
 
@@ -139,6 +146,7 @@ module _ (js : List Job) (s : Scenario) (t : ℕ) (h : List Entry) (begun : (k :
   abbrev isServed : Bool
   isServed = every (λ w. isDone (status statuses w)) (predecessors js i)
 
+  -- a job that is ready in the view is ready in the history
   pub ready-out : ready js s t (map (view t) h) i ≡ true → Ready js s t h i
   unfolding ready
   ready-out e =
@@ -150,6 +158,7 @@ module _ (js : List Job) (s : Scenario) (t : ℕ) (h : List Entry) (begun : (k :
             (ap isDone (sym (look w)) ∙ every-out (λ w. isDone (status statuses w)) (predecessors js i) (and-right (leb (s .release i) t) isServed rest) w q);
       }
 
+  -- and a job that is ready in the history is so in the view
   pub ready-in : Ready js s t h i → ready js s t (map (view t) h) i ≡ true
   unfolding ready
   ready-in r =

@@ -73,6 +73,7 @@ module _ (js : List Job) (m : ℕ) (s : Scenario) (bounds : List Range) (levels 
     pub bounded : Contains (getD bounds k empty) f
     pub timely : f ≤ job js k .deadline
 
+  -- the same of an entry; nothing of a job that has not started
   abbrev pub EntryInBounds : ℕ → Entry → Type 0
   EntryInBounds k unstarted = Unit {0}
   EntryInBounds k (ran a f) = RanInBounds k a f
@@ -259,6 +260,7 @@ module _ (js : List Job) (m : ℕ) (s : Scenario) (bounds : List Range) (levels 
           served = λ k. rw (getD-same (length js) k unstarted) tt;
         }
 
+    -- the run at every moment has a history of which all this holds
     pub run-after : (t : ℕ) → Filled t (run js m s t)
     unfolding run steps
     run-after zero =

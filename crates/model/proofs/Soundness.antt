@@ -236,6 +236,7 @@ last-level (going l seen d) bounds c e = (l, cc)
 last-level (full n) bounds c e = absurd (let z : _≡_ {A = ℕ} 0 1 = cc in omega arith)
 last-level (miss i x y) bounds c e = absurd (let z : _≡_ {A = ℕ} 0 1 = cc in omega arith)
 
+-- what an accepting analysis reports, every admissible scenario keeps
 pub soundness : (js : List Job) (m cap : ℕ) → WellFormed js m → (bounds : List Range) (c : ℕ) → analysis js m cap ≡ accepted bounds c
     → (s : Scenario) → Admissible js s → Kept js m bounds s
 unfolding analysis

@@ -32,6 +32,7 @@ Fits empty (ran start x) = ⊥
 Fits (range e f) unstarted = ⊥
 Fits (range e f) (ran start x) = (e ≤ x) × (x ≤ f)
 
+-- a range fits the entry of a started job only
 pub fits-started : (a : Range) (x : Entry) → Fits a x → isRange a ≡ hasStarted x
 fits-started empty unstarted h = refl
 fits-started empty (ran start x) h = absurd h
@@ -62,6 +63,7 @@ pub record Covers (m : ℕ) (σ : State) (t : ℕ) (h : List Entry) : Type 0 whe
   pub possibly : (u : ℕ) → t ≤ u → m ≤ countUpTo u (σ .possiblyFree) + busy u h
   pub certainly : (u : ℕ) → 1 ≤ countUpTo u (σ .certainlyFree) → countUpTo u (σ .certainlyFree) + busy u h ≤ m
 
+-- what encloses a covering state covers too
 pub covers-wider : (m : ℕ) (τ σ : State) (t : ℕ) (h : List Entry) → Encloses τ σ → Covers m σ t h → Covers m τ t h
 covers-wider m τ σ t h c r =
     record {
@@ -84,10 +86,12 @@ Below x (finite y) = x < y
 abbrev pub Candidate : List Job → State → ℕ → Type 0
 Candidate js σ i = (started σ i ≡ false) × ((w : ℕ) → member w (predecessors js i) ≡ true → started σ w ≡ true)
 
+-- the test of a candidate passes where these hold
 pub candidate-in : (js : List Job) (σ : State) (i : ℕ) → Candidate js σ i → candidate js σ i ≡ true
 unfolding candidate
 candidate-in js σ i c = and-both (not (started σ i)) (every (started σ) (predecessors js i)) (ap not (c .0)) (every-in (started σ) (predecessors js i) (c .1))
 
+-- and these hold where it passes
 pub candidate-out : (js : List Job) (σ : State) (i : ℕ) → candidate js σ i ≡ true → Candidate js σ i
 unfolding candidate
 candidate-out js σ i e = (
@@ -177,6 +181,7 @@ module _ (js : List Job) (m : ℕ) (s : Scenario) (admissible : Admissible js s)
             (candidate-ready (a .0) t (a .1) (and-left (candidate js σ (a .0)) (before js (a .0) i) (a .2)) (omega (arith, leb-true y t e, a .3)) (served y (a .0) (leb-true y t e) (a .3))) (and-right (candidate js σ (a .0)) (before js (a .0) i) (a .2))))
             (λ e. leb-false y t e) (cases (leb y t))
 
+    -- the job that starts is eligible in the covering state
     pub start-eligible : eligible js σ i ≡ true
     unfolding eligible
     start-eligible =
@@ -198,6 +203,7 @@ module _ (js : List Job) (m : ℕ) (s : Scenario) (admissible : Admissible js s)
     abbrev f : ℕ
     f = t + s .execution i
 
+    -- its finish time is in the range of the edge
     pub finish-within : Wider (finishRange js σ i) (range f f)
     unfolding earliestFinish latestFinish
     finish-within = (omega (arith, earliest-le, admissible .executions i inside .0), omega (arith, le-latest, admissible .executions i inside .1))
@@ -264,5 +270,6 @@ module _ (js : List Job) (m : ℕ) (s : Scenario) (admissible : Admissible js s)
               omega (arith, availability-from est (latestFinish js σ i) u (σ .certainlyFree) (w .0), y .1, z .1, split, busy-new u, ind-le (ltb u f), covers .certainly u (omega (arith, z .1, split)))
           go (inl w) (inr y) (inr z) c = absurd (omega (arith, availability-from est (latestFinish js σ i) u (σ .certainlyFree) (w .0), y .1, z .1, split, none-yet (z .0)))
 
+      -- and the new state covers the run after the start
       pub covers-start : Covers m (successor js σ i) t (set h i (ran t f))
       covers-start = record { finishes = fits-new; possibly = possibly-new; certainly = certainly-new }

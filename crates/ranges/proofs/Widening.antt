@@ -10,6 +10,7 @@ use Rattle.model.specs.Exploration.{hull}
 use Rattle.ranges.specs.internal.Ranges.{rangeOf, widenedBy}
 use Rattle.ranges.specs.declared.FinishRange.{FinishRange}
 
+-- the widened range is the hull of the range and that of the edge
 pub widened-hull : (r : FinishRange) (e f : ℕ) → 1 ≤ f → rangeOf (widenedBy r e f) ≡ hull (rangeOf r) (range e f)
 unfolding widenedBy
 widened-hull r e f h = go (eqb (r .latest) 0) refl

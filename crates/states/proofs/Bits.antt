@@ -13,6 +13,7 @@ use Rattle.model.proofs.Booleans.{ind-le}
 use Rattle.model.proofs.StartedSet.{half-power}
 use Rattle.states.specs.internal.Slots.{inSet}
 
+-- a digit is 1 or 0 as a truth value says
 pub digit : (d : ℕ) → d < 2 → d ≡ ind (eqb d 1)
 digit zero h = refl
 digit (suc zero) h = refl
@@ -34,6 +35,7 @@ module _ (op f : ℕ → ℕ → ℕ) (g : Bool → Bool → Bool) (same : (p q 
       low : op a b / 2 ^ w % 2 ≡ ind (g (inSet a w) (inSet b w))
       low = omega (arith, shr a b w, step (a / 2 ^ w) (b / 2 ^ w), digits, ind-le (g (inSet a w) (inSet b w)))
 
+-- what is in a meet is in both sets
 pub in-meet : (a b w : ℕ) → inSet (bitAnd a b) w ≡ (inSet a w && inSet b w)
 in-meet = in-op bitAnd min _&&_ go and-shr and-step
   where
@@ -43,6 +45,7 @@ in-meet = in-op bitAnd min _&&_ go and-shr and-step
     go false true = refl
     go false false = refl
 
+-- what is in a union is in one of the sets
 pub in-union : (a b w : ℕ) → inSet (bitOr a b) w ≡ (inSet a w || inSet b w)
 in-union = in-op bitOr max _||_ go or-shr or-step
   where
@@ -56,15 +59,18 @@ in-union = in-op bitOr max _||_ go or-shr or-step
 in-half : (x w : ℕ) → inSet x (suc w) ≡ inSet (x / 2) w
 in-half x w = ap (λ (n : ℕ). eqb (n % 2) 1) (half-power x w)
 
+-- nothing is in the empty set
 pub in-none : (w : ℕ) → inSet 0 w ≡ false
 in-none w = ap (λ (x : ℕ). eqb (x % 2) 1) (zero-div (2 ^ w))
 
+-- in the set of one is that one only
 pub in-one : (p w : ℕ) → inSet (2 ^ p) w ≡ eqb w p
 in-one zero zero = refl
 in-one zero (suc w) = in-half 1 w ∙ in-none w ∙ sym (eqb·suc-zero w)
 in-one (suc p) zero = ap (λ (d : ℕ). eqb d 1) {x = 2 ^ suc p / 1 % 2} {y = 0} (omega arith) ∙ sym (eqb·zero-suc p)
 in-one (suc p) (suc w) = in-half (2 ^ suc p) w ∙ ap (λ (x : ℕ). inSet x w) (omega arith) ∙ in-one p w ∙ sym (eqb·suc-suc w p)
 
+-- sets with the same elements are one number
 pub same-set : (a b : ℕ) → ((w : ℕ) → inSet a w ≡ inSet b w) → a ≡ b
 same-set a b = go (a + b) a b (omega arith) (omega arith)
   where

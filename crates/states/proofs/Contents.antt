@@ -17,15 +17,18 @@ use Rattle.states.specs.internal.Slots.{earliestAt, latestAt, setOf, inS
 -- ---- a job
 
 module _ (m k : ℕ) (ws : List ℕ) where
+  -- there are k finish ranges
   pub finish-length : length (stateOf m k ws .finish) ≡ k
   unfolding stateOf
   finish-length = length-tabulate (rangeAt m k ws) 0 k
 
   module _ (i : ℕ) (h : i < k) where
+    -- the finish range of job i is what its words say
     pub finish-at : finishOf (stateOf m k ws) i ≡ rangeAt m k ws i
     unfolding stateOf
     finish-at = getD-tabulate (rangeAt m k ws) 0 k i empty h ∙ ap (rangeAt m k ws) (zero-add i)
 
+    -- job i has started exactly if its bit is set
     pub started-at : started (stateOf m k ws) i ≡ inSet (setOf ws) i
     unfolding rangeAt
     started-at = ap isRange finish-at ∙ go (inSet (setOf ws) i)
@@ -34,6 +37,7 @@ module _ (m k : ℕ) (ws : List ℕ) where
         go true = refl
         go false = refl
 
+    -- the finish range of job i, by whether it has started
     pub finish-in : (b : Bool) → started (stateOf m k ws) i ≡ b
         → finishOf (stateOf m k ws) i ≡ cond b (range (getD ws (earliestAt m + i) 0) (getD ws (latestAt m k + i) 0)) empty
     unfolding rangeAt
@@ -59,5 +63,6 @@ set-mask m k ws h =
     mask-is (stateOf m k ws .finish) (setOf ws) (rw (finish-length m k ws) h)
     (λ i b. ap ind (started-at m k ws i (rw (finish-length m k ws) at b)) ∙ sym (digit (setOf ws / 2 ^ i % 2) (omega arith)))
 
+-- the count of ones is the level
 pub set-ones : (m k : ℕ) (ws : List ℕ) → setOf ws < 2 ^ k → ones (setOf ws) ≡ level (stateOf m k ws)
 set-ones m k ws h = ap ones (sym (set-mask m k ws h)) ∙ mask-ones (stateOf m k ws .finish)

@@ -15,8 +15,10 @@ module _ (m k : ℕ) (cur ys rest : List ℕ) (long : stateWords m k ≤ length 
   front : take (stateWords m k) (ys ++ rest) ≡ take (stateWords m k) cur
   front = take-at ys rest (stateWords m k) copy-length ∙ copy
 
+  -- the copy is the same state
   pub copied-state : stateOf m k (ys ++ rest) ≡ stateOf m k cur
   copied-state = sym (take-state m k (ys ++ rest)) ∙ ap (stateOf m k) front ∙ take-state m k cur
 
+  -- and has the same set
   pub copied-set : setOf (ys ++ rest) ≡ setOf cur
   copied-set = sym (take-set m k (ys ++ rest)) ∙ ap setOf front ∙ take-set m k cur

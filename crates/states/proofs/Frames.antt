@@ -12,15 +12,18 @@ use Rattle.words.proofs.Tabulate.{tabulate-ext}
 use Rattle.words.proofs.Parts.{get-before, get-after, part-take}
 use Rattle.states.specs.internal.Slots.{setWords, possiblyAt, certainlyAt, earliestAt, latestAt, setOf, inSet, rangeAt, stateOf}
 
+-- states with the same parts are one
 pub same-state : {r r′ : List Range} {p p′ c c′ : List ℕ} → r ≡ r′ → p ≡ p′ → c ≡ c′
     → _≡_ {A = State} (record { finish = r; possiblyFree = p; certainlyFree = c }) (record { finish = r′; possiblyFree = p′; certainlyFree = c′ })
 same-state d e f = rw (d, e, f)
 
+-- the set is told by its two words
 pub same-set-words : (ws vs : List ℕ) → getD ws 0 0 ≡ getD vs 0 0 → getD ws 1 0 ≡ getD vs 1 0 → setOf ws ≡ setOf vs
 unfolding setOf
 same-set-words ws vs p q = rw (p, q)
 
 module _ (m k : ℕ) (ws vs : List ℕ) where
+  -- a finish range is told by its bit and its two words
   pub same-range : (i : ℕ) → inSet (setOf ws) i ≡ inSet (setOf vs) i → getD ws (earliestAt m + i) 0 ≡ getD vs (earliestAt m + i) 0
       → getD ws (latestAt m k + i) 0 ≡ getD vs (latestAt m k + i) 0 → rangeAt m k ws i ≡ rangeAt m k vs i
   unfolding rangeAt
@@ -35,18 +38,22 @@ module _ (m k : ℕ) (ws vs : List ℕ) where
 -- ---- availabilities put back say nothing of the jobs
 
 module _ (m k a : ℕ) (d ys : List ℕ) (first : setWords ≤ a) (last : a + m ≤ earliestAt m) (h : stateWords m k ≤ length d) (l : length ys ≡ m) where
+  -- the set stays
   pub put-set : setOf (putMid a m d ys) ≡ setOf d
   put-set = same-set-words (putMid a m d ys) d (get-before a m d ys (omega arith) l 0 (omega arith)) (get-before a m d ys (omega arith) l 1 (omega arith))
 
+  -- the finish ranges stay
   pub put-finish : stateOf m k (putMid a m d ys) .finish ≡ stateOf m k d .finish
   put-finish = same-finish m k (putMid a m d ys) d put-set (λ i b c. get-after a m d ys (omega arith) l i (omega arith))
 
 -- ---- words past a state say nothing of it
 
 module _ (m k : ℕ) (ws : List ℕ) where
+  -- the words of a state tell its set
   pub take-set : setOf (take (stateWords m k) ws) ≡ setOf ws
   take-set = same-set-words (take (stateWords m k) ws) ws (getD-take (stateWords m k) ws 0 0 (omega arith)) (getD-take (stateWords m k) ws 1 0 (omega arith))
 
+  -- the words of a state tell the state
   pub take-state : stateOf m k (take (stateWords m k) ws) ≡ stateOf m k ws
   unfolding stateOf
   take-state =

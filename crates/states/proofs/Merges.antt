@@ -34,17 +34,21 @@ module _ (m k : ℕ) (a b : List ℕ) (ha : setOf a < 2 ^ k) (hb : setOf b < 2 ^
       same : sameStarted (stateOf m k a .finish) (stateOf m k b .finish) ≡ eqb (setOf a) (setOf b)
       same = mask-same (stateOf m k a .finish) (stateOf m k b .finish) (finish-length m k a ∙ sym (finish-length m k b)) ∙ rw (set-mask m k a ha, set-mask m k b hb) refl
 
+  -- states with different sets do not merge
   pub other-set : (setOf a ≡ setOf b → ⊥) → mergeable (stateOf m k a) (stateOf m k b) ≡ false
   other-set n = mergeable-words ∙ rw (ne-eqb (setOf a) (setOf b) n) refl
 
+  -- with one set, they merge where the availabilities overlap
   pub one-set : setOf a ≡ setOf b → mergeable (stateOf m k a) (stateOf m k b) ≡ (everyTwo leb (part possiblyAt m a) (part (certainlyAt m) m b) && everyTwo leb (part possiblyAt m b) (part (certainlyAt m) m a))
   one-set e = mergeable-words ∙ rw (eq-eqb (setOf a) (setOf b) e) refl
 
+  -- states that merge have one set
   pub mergeable-set : mergeable (stateOf m k a) (stateOf m k b) ≡ true → setOf a ≡ setOf b
   mergeable-set e = eqb-true (setOf a) (setOf b) (and-left _ _ (sym mergeable-words ∙ e))
 
 -- ---- n lower ends and n upper ends, put back
 
+-- the parts put back are the ranges, widened
 pub widened : (a n : ℕ) (d s ys zs : List ℕ) → a + n + n ≤ length d → length ys ≡ n → length zs ≡ n
     → ys ≡ zipWith min (part a n d) (part a n s) → zs ≡ zipWith max (part (a + n) n (putMid a n d ys)) (part (a + n) n s) → Widened a n d s (putMid (a + n) n (putMid a n d ys) zs)
 widened a n d s ys zs h ly lz p q =
@@ -73,6 +77,7 @@ module _ (m k : ℕ) (d s d₁ d₂ : List ℕ) (hd : stateWords m k ≤ length 
   set-word j g =
       sym (getD-take setWords d₂ j 0 g) ∙ ap (λ (z : List ℕ). getD z j 0) (y .before 0 setWords (omega arith) ∙ x .before 0 setWords (omega arith)) ∙ getD-take setWords d j 0 g
 
+  -- a merge keeps the set
   pub merged-set : setOf d₂ ≡ setOf d
   merged-set = same-set-words d₂ d (set-word 0 (omega arith)) (set-word 1 (omega arith))
 
@@ -90,6 +95,7 @@ module _ (m k : ℕ) (d s d₁ d₂ : List ℕ) (hd : stateWords m k ≤ length 
       go true a b c d = refl
       go false a b c d = refl
 
+  -- the words are those of the merged state
   pub merged-state : stateOf m k d₂ ≡ merge (stateOf m k d) (stateOf m k s)
   unfolding stateOf merge
   merged-state =

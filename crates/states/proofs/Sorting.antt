@@ -13,6 +13,7 @@ use Rattle.model.specs.Edges.{insert, sort, availability}
 use Rattle.model.proofs.Sorted.{tail-sorted, raised-sorted, sort-same}
 use Rattle.model.specs.internal.Sorted.{Least, Sorted, none, more}
 
+-- x is carried through the list: the smaller stays, the larger goes on
 unfoldable pub carried : ℕ → List ℕ → List ℕ
 carried x [] = x ∷ []
 carried x (y ∷ ys) = min x y ∷ carried (max x y) ys
@@ -48,6 +49,7 @@ tail-drop : (l : List ℕ) → tail l ≡ drop 1 l
 tail-drop [] = refl
 tail-drop (x ∷ xs) = refl
 
+-- the finish time carried through the raised availabilities gives the new ones
 pub carried-availability : (s f : ℕ) (l : List ℕ) → Sorted l → carried f (map (max s) (drop 1 l)) ≡ availability s f l
 unfolding availability sort
 carried-availability s f l h =
@@ -61,6 +63,7 @@ module _ (l : List ℕ) (j s x : ℕ) where
   next-cons : j + 1 < length l → drop (j + 1) l ≡ getD l (j + 1) 0 ∷ drop (j + 1 + 1) l
   next-cons h = drop-cons l (j + 1) 0 h ∙ ap (λ (n : ℕ). getD l (j + 1) 0 ∷ drop n l) (sym (add-one (j + 1)))
 
+  -- one word more is done
   pub carried-on : j + 1 < length l → (y v w : ℕ) → y ≡ max s (getD l (j + 1) 0) → v ≡ min x y → w ≡ max x y
       → take j l ++ carried x (map (max s) (drop (j + 1) l)) ≡ take (j + 1) (set l j v) ++ carried w (map (max s) (drop (j + 1 + 1) (set l j v)))
   unfolding carried
@@ -69,6 +72,7 @@ module _ (l : List ℕ) (j s x : ℕ) where
       let d : drop (j + 1 + 1) (set l j v) ≡ drop (j + 1 + 1) l = drop-set-lt (j + 1 + 1) l j v (omega arith) in
       rw (t, d, next-cons h, ← e, ← p, ← q) (sym (append-assoc (take j l) (v ∷ []) (carried w (map (max s) (drop (j + 1 + 1) l)))))
 
+  -- the last word takes what is carried
   pub carried-last : j < length l → length l ≤ j + 1 → set l j x ≡ take j l ++ carried x (map (max s) (drop (j + 1) l))
   unfolding carried
   carried-last h b = set-split l j x h ∙ ap (λ (n : ℕ). take j l ++ (x ∷ drop n l)) (sym (add-one j)) ∙ rw (drop-of-length-le l {i = j + 1} b)

@@ -61,6 +61,7 @@ module _ (m k : ℕ) (d : List ℕ) (i : ℕ) (h : i < k) (fits : setOf d < 2 ^ 
     set-words : (j : ℕ) → j < setWords → getD out j 0 ≡ getD withSet j 0
     set-words j b = getD-set-other withEarliest (latestAt m k + i) j f 0 (λ (z : j ≡ latestAt m k + i). omega (arith, z)) ∙ getD-set-other withSet (earliestAt m + i) j e 0 (λ (z : j ≡ earliestAt m + i). omega (arith, z))
 
+    -- the set has one job more
     pub added-set : setOf out ≡ setOf d + 2 ^ i
     unfolding setOf
     added-set =
@@ -108,6 +109,7 @@ module _ (m k : ℕ) (d : List ℕ) (i : ℕ) (h : i < k) (fits : setOf d < 2 ^ 
         part-set-before b m withEarliest (latestAt m k + i) f (omega arith) ∙ part-set-before b m withSet (earliestAt m + i) e (omega arith)
         ∙ part-set-after b m (set d 0 (new % 4294967296)) 1 (new / 4294967296) (omega arith) ∙ part-set-after b m d 0 (new % 4294967296) (omega arith)
 
+    -- the state has the finish range of the job, and its availabilities as they were
     pub added-state : stateOf m k out ≡ record { finish = set finish i (range e f); possiblyFree = stateOf m k d .possiblyFree; certainlyFree = stateOf m k d .certainlyFree }
     unfolding stateOf
     added-state =
@@ -137,6 +139,7 @@ module _ (m k : ℕ) (ws ys zs : List ℕ) (long : stateWords m k ≤ length ws)
   lower-long : stateWords m k ≤ length lower
   lower-long = omega (arith, length-put possiblyAt m ws ys (omega arith) ly)
 
+  -- the set stays
   pub updated-set : setOf upper ≡ setOf ws
   updated-set = put-set m k (certainlyAt m) lower zs (omega arith) (omega arith) lower-long lz ∙ put-set m k possiblyAt ws ys (omega arith) (omega arith) long ly
 
@@ -149,6 +152,7 @@ module _ (m k : ℕ) (ws ys zs : List ℕ) (long : stateWords m k ≤ length ws)
       (part-before (certainlyAt m) m lower zs fits lz possiblyAt m (omega arith) ∙ part-same possiblyAt m ws ys (omega arith) ly)
       (part-same (certainlyAt m) m lower zs fits lz)
 
+  -- with both availabilities updated, the words are those of the successor
   pub started-state : (σ : State) (i s e f : ℕ) → stateOf m k ws ≡ record { finish = set (σ .finish) i (range e f); possiblyFree = σ .possiblyFree; certainlyFree = σ .certainlyFree }
       → ys ≡ availability s e (part possiblyAt m ws) → zs ≡ availability s f (part (certainlyAt m) m lower) → stateOf m k upper ≡ withStart σ i s e f
   unfolding stateOf

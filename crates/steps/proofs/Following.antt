@@ -36,6 +36,7 @@ use Rattle.steps.proofs.progress.Progress.{the-type}
 -- ---- an edge that was found
 
 module _ (js : List Job) (σ : State) (i : ℕ) where
+  -- an edge that was found is that of an eligible job, with its earliest and latest start
   pub edge-starts : (s t : ℕ) → edgeOf js σ i ≡ Starts s t → (eligible js σ i ≡ true) × (s ≡ earliestStart js σ i) × (t ≡ latestStart js σ i)
   unfolding edgeOf
   edge-starts s t = go (eligible js σ i)
@@ -44,6 +45,7 @@ module _ (js : List Job) (σ : State) (i : ℕ) where
       go true e = (refl, cc, cc)
       go false e = let z : _≡_ {A = ℕ} 0 1 = cc in absurd (omega arith)
 
+  -- a job with no edge leaves the exploration as it is
   pub no-edge : (cap : ℕ) (l : List State) (seen : List Range) (c : ℕ) → edgeOf js σ i ≡ NotEligible → going l seen c ≡ tryJob js cap σ i (going l seen c)
   unfolding edgeOf tryJob
   no-edge cap l seen c = go (eligible js σ i)
@@ -52,6 +54,7 @@ module _ (js : List Job) (σ : State) (i : ℕ) where
       go true e = let z : _≡_ {A = ℕ} 0 1 = cc in absurd (omega arith)
       go false e = refl
 
+  -- an eligible job adds its edge
   pub an-edge : (cap : ℕ) (l : List State) (seen : List Range) (c : ℕ) → eligible js σ i ≡ true → addEdge js cap σ i l seen c ≡ tryJob js cap σ i (going l seen c)
   unfolding tryJob
   an-edge cap l seen c e = sym (ap (λ b. cond b (addEdge js cap σ i l seen c) (going l seen c)) e)
@@ -59,14 +62,17 @@ module _ (js : List Job) (σ : State) (i : ℕ) where
 -- ---- its moments fit into words
 
 module _ (rows : List ℕ) (k m : ℕ) (setting : Setting rows k m) (i : ℕ) (h : i < k) where
+  -- the job is one of the list
   pub inside : i < length (jobsOf rows k)
   inside = omega (arith, length-jobs rows k)
 
+  -- a job takes time
   pub most-positive : 1 ≤ job (jobsOf rows k) i .mostExecution
   most-positive =
       let least : job (jobsOf rows k) i .leastExecution ≡ word rows i leastExecutionAt = field-of rows k i leastExecutionAt h (omega arith) in
       omega (arith, least, setting .executions i h .0, setting .timed .executions i inside)
 
+  -- the finish times of an edge are far below what a word holds
   pub finishes-fit : (σ : State) (s t : ℕ) → Bounded (jobsOf rows k) latestTime σ → edgeOf (jobsOf rows k) σ i ≡ Starts s t
       → (s + job (jobsOf rows k) i .leastExecution ≤ latestTime + longestExecution) × (t + job (jobsOf rows k) i .mostExecution ≤ latestTime + longestExecution)
   finishes-fit σ s t b e =
@@ -141,6 +147,7 @@ module _ (js : List Job) (cap : ℕ) (σ : State) where
   abbrev pub tryListed : List ℕ → Exploration → Exploration
   tryListed l x = foldl (λ y i. tryJob js cap σ i y) x l
 
+  -- one listed job more
   pub one-more : (x : Exploration) (l : List ℕ) (t : ℕ) → t < length l → tryListed (take (t + 1) l) x ≡ tryJob js cap σ (getD l t 0) (tryListed (take t l) x)
   one-more x l t h = fold-turn (λ y i. tryJob js cap σ i y) x l t h
 
@@ -157,6 +164,7 @@ module _ (js : List Job) (cap : ℕ) (σ : State) where
   stays (full n) h i = refl
   stays (miss j e f) h i = refl
 
+  -- once stopped, jobs change nothing
   pub jobs-stopped : (n : ℕ) (x : Exploration) → Stopped x → tryJobs js cap σ n x ≡ x
   unfolding tryJobs
   jobs-stopped zero x h = refl
@@ -174,6 +182,7 @@ module _ (js : List Job) (cap : ℕ) (σ : State) where
         rw listed
         (fold-listed (candidate js σ) (λ y i. tryJob js cap σ i y) (λ j. tryJobs js cap σ j x) (λ j e. refl) (λ j e. left-out j e (tryJobs js cap σ j x)) k)
 
+    -- with all listed jobs tried, every job has been tried
     pub all-tried : (t : ℕ) → length list ≤ t → tryListed (take t list) x ≡ tryJobs js cap σ k x
     all-tried t h = ap (λ l. tryListed l x) (take-all t list h) ∙ every-candidate
 

@@ -14,6 +14,7 @@ use Rattle.words.proofs.Tabulate.{length-tabulate, getD-tabulate, tabulate-is}
 use Rattle.ranges.specs.internal.Ranges.{rangeIn}
 use Rattle.steps.specs.internal.Observed.{observedAt, observedOf, Observed}
 
+-- the range of job i is what its two words say
 pub observed-at : (k : ℕ) (ws : List ℕ) (i : ℕ) → i < k → getD (observedOf k ws) i empty ≡ observedAt ws i
 unfolding observedOf
 observed-at k ws i h = getD-tabulate (observedAt ws) 0 k i empty h ∙ ap (observedAt ws) (zero-add i)
@@ -32,6 +33,7 @@ module _ (k : ℕ) (ws : List ℕ) (i e f : ℕ) (inside : i < k) (few : k ≤ m
     getD-set-other (set ws i e) (mostJobs + i) (mostJobs + j) f 0 (λ w. d (omega arith)) ∙ getD-set-other ws i (mostJobs + j) e 0 (λ w. omega arith),
   )
 
+  -- a store changes the range of its job only
   pub observed-set : observedOf k new ≡ set (observedOf k ws) i (rangeIn e f)
   unfolding observedOf
   observed-set =
@@ -51,6 +53,7 @@ module _ (k : ℕ) (ws : List ℕ) (i e f : ℕ) (inside : i < k) (few : k ≤ m
           rw (other j z (omega arith) .0, other j z (omega arith) .1, getD-set-other (tabulate (observedAt ws) 0 k) i j (rangeIn e f) empty z)
           (sym (getD-tabulate (observedAt ws) 0 k j empty g ∙ ap (observedAt ws) (zero-add j)))
 
+  -- and keeps the words from job k on
   pub observed-kept : Observed k new
   observed-kept =
       record {

@@ -15,6 +15,7 @@ use Rattle.states.specs.internal.Slots.{setOf, stateOf, slotOf}
 use Rattle.states.proofs.Merges.{mergeable-set}
 use Rattle.store.specs.internal.Half.{SetsFit, NoneMerges, buckets, bucketOf, bucketAt, Indexed, FirstOf}
 
+-- every set has a bucket
 pub bucket-inside : (x : ℕ) → bucketOf x < buckets
 bucket-inside x = mod-lt x (omega arith)
 
@@ -29,12 +30,15 @@ module _ (m k : ℕ) (ws : List ℕ) (n : ℕ) (heads : List ℕ) (index : Index
     head-of : (j : ℕ) → j < n → bucketAt m k ws j ≡ b → (getD heads b 0 ≤ j) × (bucketAt m k ws (getD heads b 0) ≡ b)
     head-of j h e = subst (λ (z : ℕ). (getD heads z 0 ≤ j) × (bucketAt m k ws (getD heads z 0) ≡ z)) e (index .not-after j h, index .in-place j h)
 
+    -- a head past the states says that its bucket is empty
     pub no-slot : n ≤ getD heads b 0 → FirstOf m k ws n heads b n
     no-slot h = record { inside = omega arith; none-before = λ j g e. omega (arith, head-of j g e .0, g); is-head = λ g. absurd (omega (arith, g)) }
 
+    -- and so does a head of another bucket
     pub other-bucket : (bucketAt m k ws (getD heads b 0) ≡ b → ⊥) → FirstOf m k ws n heads b n
     other-bucket d = record { inside = omega arith; none-before = λ j g e. d (head-of j g e .1); is-head = λ g. absurd (omega (arith, g)) }
 
+    -- else the head is the first of its bucket
     pub head-is-first : getD heads b 0 < n → bucketAt m k ws (getD heads b 0) ≡ b → FirstOf m k ws n heads b (getD heads b 0)
     head-is-first h e = record { inside = omega arith; none-before = λ j g q. omega (arith, head-of j (omega (arith, g)) q .0, g); is-head = λ g. (e, refl) }
 
@@ -62,6 +66,7 @@ module _ (m k : ℕ) (ws : List ℕ) (n : ℕ) (heads : List ℕ) (index : Index
     before : Indexed m k vs n heads
     before = indexed-same vs (λ i h. ap setOf (kept i h))
 
+    -- the index, once a state is added
     pub indexed-more : Indexed m k vs (n + 1) (set heads (bucketOf x) r)
     indexed-more =
         let each = below-more Good n (λ j h. earlier j h (ℕ-discrete (bucketAt m k vs j) (bucketOf x))) (its-own n (first .inside) of-last) in
@@ -90,6 +95,7 @@ module _ (m k : ℕ) (ws : List ℕ) (n : ℕ) (heads : List ℕ) (index : Index
 
 -- ---- what it is for: a state of another bucket has another set, and cannot merge
 
+-- no state before the first of its bucket merges with the new one
 pub none-merges : (m k : ℕ) (half new : List ℕ) (n : ℕ) (heads : List ℕ) (r : ℕ) → SetsFit m k half n → setOf new < 2 ^ k → FirstOf m k half n heads (bucketOf (setOf new)) r → NoneMerges m k half new r
 none-merges m k half new n heads r fit s first j h = go (mergeable (stateOf m k (slotOf m k half j)) (stateOf m k new)) refl
   where

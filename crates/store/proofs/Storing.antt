@@ -60,9 +60,11 @@ module _ (m k : ℕ) (half ys : List ℕ) (j : ℕ) (h : j * stateWords m k + st
   abbrev W : ℕ
   W = stateWords m k
 
+  -- the slot has the words put there
   pub slot-same : slotOf m k (putMid (j * W) W half ys) j ≡ ys
   slot-same = part-same (j * W) W half ys h l
 
+  -- the other slots stay
   pub others-kept : OthersKept m k j half (putMid (j * W) W half ys)
   others-kept i ne g = ⊎-elim (part-before (j * W) W half ys h l (i * W) W) (part-after (j * W) W half ys h l (i * W) W) (apart i j W ne)
 
@@ -117,6 +119,7 @@ module _ (m k : ℕ) (half new : List ℕ) (n cap : ℕ) (room : cap * stateWord
   kept : (i j : ℕ) (out : List ℕ) → OthersKept m k j half out → i < n → (i ≡ j → ⊥) → slotOf m k out i ≡ slotOf m k half i
   kept i j out o b ne = o i ne (omega (arith, slot-fits i cap (stateWords m k) (omega arith)))
 
+  -- a state added behind leaves those before it
   pub slots-kept : (out : List ℕ) → OthersKept m k n half out → (i : ℕ) → i < n → slotOf m k out i ≡ slotOf m k half i
   slots-kept out o i g = kept i n out o g (λ (z : i ≡ n). omega (arith, z, g))
 
@@ -134,6 +137,7 @@ module _ (m k : ℕ) (half new : List ℕ) (n cap : ℕ) (room : cap * stateWord
       let l : length (stored state states) ≤ cap = omega (arith, ap length e, states-length m k out count) in
       rw (le-ltb cap (length (stored state states)) l, e) refl
 
+  -- what a merge leaves is the level that the definition stores
   pub merged-result : (j : ℕ) (out : List ℕ) → FirstMerging m k half n new j → j < n → stateOf m k (slotOf m k out j) ≡ merge (stateOf m k (slotOf m k half j)) state
       → setOf (slotOf m k out j) ≡ setOf new → OthersKept m k j half out → Result (At n) out
   merged-result j out f h p q o = (in-room out n level most, λ js a s. (most, λ i b. sound js a s i b (ℕ-discrete i j)))
@@ -155,6 +159,7 @@ module _ (m k : ℕ) (half new : List ℕ) (n cap : ℕ) (room : cap * stateWord
     last : stored state states ≡ states ++ (state ∷ [])
     last = stored-last state states state (λ i b. let b₁ : i < n = omega (arith, b, states-length m k half n) in ap (λ (τ : State). mergeable τ state) (state-at m k half n i state b₁) ∙ none i b₁)
 
+    -- so is what adding the state leaves
     pub added-result : (out : List ℕ) → n < cap → slotOf m k out n ≡ take (stateWords m k) new → OthersKept m k n half out → Result (At (n + 1)) out
     added-result out b p o = (in-room out (n + 1) level (omega arith), λ js a s. (omega arith, below-more (λ (i : ℕ). Sound js m k (slotOf m k out i)) n (λ i g. rw (same i g) (a i g)) (sound js s)))
       where
@@ -167,6 +172,7 @@ module _ (m k : ℕ) (half new : List ℕ) (n cap : ℕ) (room : cap * stateWord
         sound : (js : List Job) → Sound js m k new → Sound js m k (slotOf m k out n)
         sound js s = rw p (record { set-fits = rw (take-set m k new) (s .set-fits); bounded = rw (take-state m k new) (s .bounded) })
 
+    -- and with no room, the level is full
     pub full-result : cap ≤ n → Result Full half
     unfolding limited
     full-result b = (λ seen c. rw (lt-ltb cap (length (stored state states)) (omega (arith, ap length last, length-append states (state ∷ []), states-length m k half n))) refl, λ js a s. tt)

@@ -29,8 +29,12 @@ abbrev μ-loop : tie.MeasureT-loop
 loop-holds : tie.Need-loop-holds Inv-loop μ-loop
 loop-holds c = (omega arith, refl)
 
+-- the words on entry
+abbrev entry : tie.After-shared-slice-known4 Inv-loop μ-loop → tie.Start Inv-loop μ-loop
+entry c = c .before .before .before .before .before .before
+
 -- the job at place t is a candidate
-below : (c : tie.After-shared-slice-known4 Inv-loop μ-loop) → getD (now (c .before .before .before .before .before .before .args .list)) (c .before .before .loop .t) 0 < c .before .before .before .before .before .before .args .k
+below : (c : tie.After-shared-slice-known4 Inv-loop μ-loop) → getD (now (entry c .args .list)) (c .before .before .loop .t) 0 < entry c .args .k
 below c =
     let s = c .before .before .before .before .before .before in
     let js = jobsOf (now (s .args .rows)) (s .args .k) in

@@ -1,6 +1,6 @@
 -- `store::find_merging` meets its contract: no state before j merges with the new one. Assumes nothing.
-use Prim.Native.Nat.{_+_, _*_, _-_, _≤_}
-use mathlib.Core.Path.{_≡_, sym, _∙_}
+use Prim.Native.Nat.{ℕ, _+_, _*_, _-_, _≤_}
+use mathlib.Core.Path.{_≡_, sym, ap, _∙_}
 use native.Mathlib.Omega.{arith}
 use lib.ListN.{length}
 use denote.Ref.{now}
@@ -20,16 +20,30 @@ Inv-loop half n from new m k w j₀ j = (j ≤ n) × NoneMerges m k half new j
 abbrev μ-loop : tie.MeasureT-loop
 μ-loop half n from new m k w j₀ j = n - j
 
-within : (c : tie.In-loop Inv-loop μ-loop) → c .before .loop .j * c .before .before .state-words .result + c .before .before .state-words .result ≤ length (now (c .before .before .before .before .before .args .half))
-within c =
-    let a = c .before .before .before .before .before in
-    let t = c .before .loop in
-    rw (c .before .before .state-words .ensures) (omega (arith, slot-fits (t .j) (a .args .n) (stateWords (a .args .m) (a .args .k)) (omega arith), a .pre .2))
+-- the words on entry
+abbrev entry : tie.In-loop Inv-loop μ-loop → tie.Start Inv-loop μ-loop
+entry c = c .before .before .before .before .before
 
-tested : (c : tie.After-can-merge Inv-loop μ-loop) → c .can-merge .result ≡ mergeable (stateOf (c .before .before .before .before .before .before .before .args .m) (c .before .before .before .before .before .before .before .args .k) (slotOf (c .before .before .before .before .before .before .before .args .m) (c .before .before .before .before .before .before .before .args .k) (now (c .before .before .before .before .before .before .before .args .half)) (c .before .before .before .loop .j))) (stateOf (c .before .before .before .before .before .before .before .args .m) (c .before .before .before .before .before .before .before .args .k) (now (c .before .before .before .before .before .before .before .args .new)))
+-- the slot that is tested lies in the half
+within : (c : tie.In-loop Inv-loop μ-loop) → c .before .loop .j * c .before .before .state-words .result + c .before .before .state-words .result ≤ length (now (entry c .args .half))
+within c =
+    let a = entry c in
+    let t = c .before .loop in
+    omega (
+      arith,
+      ap (λ (z : ℕ). t .j * z + z) (c .before .before .state-words .ensures),
+      slot-fits (t .j) (a .args .n) (stateWords (a .args .m) (a .args .k)) (omega arith),
+      a .pre .2,
+    )
+
+-- the words on entry
+abbrev entry-tested : tie.After-can-merge Inv-loop μ-loop → tie.Start Inv-loop μ-loop
+entry-tested c = c .before .before .before .before .before .before .before
+
+tested : (c : tie.After-can-merge Inv-loop μ-loop) → c .can-merge .result ≡ mergeable (stateOf (entry-tested c .args .m) (entry-tested c .args .k) (slotOf (entry-tested c .args .m) (entry-tested c .args .k) (now (entry-tested c .args .half)) (c .before .before .before .loop .j))) (stateOf (entry-tested c .args .m) (entry-tested c .args .k) (now (entry-tested c .args .new)))
 tested c =
     let t = c .before .before .before .loop in
-    let W = stateWords (c .before .before .before .before .before .before .before .args .m) (c .before .before .before .before .before .before .before .args .k) in
+    let W = stateWords (entry-tested c .args .m) (entry-tested c .args .k) in
     let p : t .j * W + W - t .j * W ≡ W = omega arith in
     rw (c .before .before .before .before .state-words .ensures, p) at (c .can-merge .ensures)
 
@@ -63,7 +77,8 @@ can-merge-requires c κs =
     let W = stateWords (a .args .m) (a .args .k) in
     let j = c .before .before .loop .j in
     let p : j * W + W - j * W ≡ W = omega arith in
-    let l = part-length (j * W) W (now (a .args .half)) (rw (c .before .before .before .state-words .ensures) at (within (c .before))) in
+    let inside : j * W + W ≤ length (now (a .args .half)) = omega (arith, ap (λ (z : ℕ). j * z + z) (c .before .before .before .state-words .ensures), within (c .before)) in
+    let l = part-length (j * W) W (now (a .args .half)) inside in
     rw (c .before .before .before .state-words .ensures, p) (omega (arith, l), a .pre .3, a .pre .4 j (c .before .loop-test .taken), a .pre .5)
 
 returns : tie.Need-returns Inv-loop μ-loop

@@ -1,5 +1,5 @@
 -- `store::first_of` meets its contract. Assumes nothing.
-use Prim.Native.Nat.{_+_, _*_, _-_, _≤_}
+use Prim.Native.Nat.{ℕ, _+_, _*_, _-_, _≤_}
 use mathlib.Core.Path.{_≡_, sym, ap, _∙_}
 use native.Mathlib.Omega.{arith}
 use lib.ListN.{getD, length}
@@ -26,11 +26,21 @@ returns c =
 state-words-requires : tie.Need-state-words-requires
 state-words-requires c κs = search needs
 
+-- the words on entry
+abbrev entry : tie.After-state-words → tie.Start
+entry c = c .before .before .before .before .before
+
 -- the head's slot lies in the half
-within : (c : tie.After-state-words) → getD (now (c .before .before .before .before .before .args .heads)) (c .before .before .before .before .before .args .b) 0 * c .state-words .result + c .state-words .result ≤ length (now (c .before .before .before .before .before .args .half))
+within : (c : tie.After-state-words) → getD (now (entry c .args .heads)) (entry c .args .b) 0 * c .state-words .result + c .state-words .result ≤ length (now (entry c .args .half))
 within c =
-    let a = c .before .before .before .before .before in
-    rw (c .state-words .ensures) (omega (arith, slot-fits (getD (now (a .args .heads)) (a .args .b) 0) (a .args .n) (stateWords (a .args .m) (a .args .k)) (c .before .if1 .left), a .pre .2))
+    let a = entry c in
+    let head = getD (now (a .args .heads)) (a .args .b) 0 in
+    omega (
+      arith,
+      ap (λ (z : ℕ). head * z + z) (c .state-words .ensures),
+      slot-fits head (a .args .n) (stateWords (a .args .m) (a .args .k)) (c .before .if1 .left),
+      a .pre .2,
+    )
 
 mul-at : tie.Need-mul-at
 mul-at c = omega (arith, within c)
@@ -56,8 +66,12 @@ started-set-requires c κs = search needs
 bucket-of-requires : tie.Need-bucket-of-requires
 bucket-of-requires c κs = search needs
 
+-- the words on entry
+abbrev entry-tested : tie.After-bucket-of → tie.Start
+entry-tested c = c .before .before .before .before .before .before .before .before
+
 -- the bucket of the state that stands there
-tested : (c : tie.After-bucket-of) → c .bucket-of .result ≡ bucketAt (c .before .before .before .before .before .before .before .before .args .m) (c .before .before .before .before .before .before .before .before .args .k) (now (c .before .before .before .before .before .before .before .before .args .half)) (getD (now (c .before .before .before .before .before .before .before .before .args .heads)) (c .before .before .before .before .before .before .before .before .args .b) 0)
+tested : (c : tie.After-bucket-of) → c .bucket-of .result ≡ bucketAt (entry-tested c .args .m) (entry-tested c .args .k) (now (entry-tested c .args .half)) (getD (now (entry-tested c .args .heads)) (entry-tested c .args .b) 0)
 tested c =
     let a = c .before .before .before .before .before .before .before .before in
     let W = stateWords (a .args .m) (a .args .k) in

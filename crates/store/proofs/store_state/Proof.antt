@@ -19,8 +19,12 @@ started-set-requires c κs = search needs
 bucket-of-requires : tie.Need-bucket-of-requires
 bucket-of-requires c κs = search needs
 
+-- the words on entry
+abbrev entry : tie.After-bucket-of → tie.Start
+entry c = c .before .before .before .before .before
+
 -- the bucket of the new state
-bucket : (c : tie.After-bucket-of) → c .bucket-of .result ≡ bucketOf (setOf (now (c .before .before .before .before .before .args .new)))
+bucket : (c : tie.After-bucket-of) → c .bucket-of .result ≡ bucketOf (setOf (now (entry c .args .new)))
 bucket c = c .bucket-of .ensures ∙ ap bucketOf (c .before .started-set .ensures)
 
 first-of-requires : tie.Need-first-of-requires
@@ -33,8 +37,12 @@ first-of-requires c κs =
       a .pre .7,
     )
 
+-- the words on entry
+abbrev entry-searched : tie.After-first-of → tie.Start
+entry-searched c = c .before .before .before .before .before .before .before .before
+
 -- the first state of its bucket
-first : (c : tie.After-first-of) → FirstOf (c .before .before .before .before .before .before .before .before .args .m) (c .before .before .before .before .before .before .before .before .args .k) (now (c .before .before .before .before .before .before .before .before .args .half)) (c .before .before .before .before .before .before .before .before .args .n) (now (c .before .before .before .before .before .before .before .before .args .heads)) (bucketOf (setOf (now (c .before .before .before .before .before .before .before .before .args .new)))) (c .first-of .result)
+first : (c : tie.After-first-of) → FirstOf (entry-searched c .args .m) (entry-searched c .args .k) (now (entry-searched c .args .half)) (entry-searched c .args .n) (now (entry-searched c .args .heads)) (bucketOf (setOf (now (entry-searched c .args .new)))) (c .first-of .result)
 first c = rw (bucket (c .before .before .before)) at (c .first-of .ensures)
 
 find-merging-requires : tie.Need-find-merging-requires
@@ -50,10 +58,14 @@ find-merging-requires c κs =
       none-merges (a .args .m) (a .args .k) (now (a .args .half)) (now (a .args .new)) (a .args .n) (now (a .args .heads)) (c .before .first-of .result) (a .pre .5) (a .pre .6) (first (c .before)),
     )
 
-none : (c : tie.Else1) → NoneMerges (c .before .before .before .before .before .before .before .before .before .before .before .args .m) (c .before .before .before .before .before .before .before .before .before .before .before .args .k) (now (c .before .before .before .before .before .before .before .before .before .before .before .args .half)) (now (c .before .before .before .before .before .before .before .before .before .before .before .args .new)) (c .before .before .before .before .before .before .before .before .before .before .before .args .n)
+-- the words on entry
+abbrev entry-unmerged : tie.Else1 → tie.Start
+entry-unmerged c = c .before .before .before .before .before .before .before .before .before .before .before
+
+none : (c : tie.Else1) → NoneMerges (entry-unmerged c .args .m) (entry-unmerged c .args .k) (now (entry-unmerged c .args .half)) (now (entry-unmerged c .args .new)) (entry-unmerged c .args .n)
 none c =
     let f = c .before .find-merging in
-    let e : f .result ≡ c .before .before .before .before .before .before .before .before .before .before .before .args .n = omega (arith, f .ensures .inside, c .if1 .left) in
+    let e : f .result ≡ entry-unmerged c .args .n = omega (arith, f .ensures .inside, c .if1 .left) in
     rw e at (f .ensures .none-before)
 
 merge-at-requires : tie.Need-merge-at-requires

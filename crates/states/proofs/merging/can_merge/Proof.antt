@@ -13,12 +13,20 @@ use borrow.Author.Needs.{needs}
 use Rattle.states.proofs.merging.can_merge.Statement.{statement}
 use Rattle.states.proofs.merging.can_merge.Tie as tie
 
-same : (c : tie.Else1) → setOf (now (c .before .before .before .before .before .args .a)) ≡ setOf (now (c .before .before .before .before .before .args .b))
+-- the words on entry
+abbrev entry : tie.Else1 → tie.Start
+entry c = c .before .before .before .before .before
+
+same : (c : tie.Else1) → setOf (now (entry c .args .a)) ≡ setOf (now (entry c .args .b))
 same c = sym (c .before .before .started-set .ensures) ∙ c .if1 .left ∙ c .before .started-set2 .ensures
 
-lower : (c : tie.After-all-at-most) → c .all-at-most .result ≡ everyTwo leb (part possiblyAt (c .before .before .before .before .before .before .before .before .args .m) (now (c .before .before .before .before .before .before .before .before .args .a))) (part (certainlyAt (c .before .before .before .before .before .before .before .before .args .m)) (c .before .before .before .before .before .before .before .before .args .m) (now (c .before .before .before .before .before .before .before .before .args .b)))
+-- the words on entry
+abbrev entry-tested : tie.After-all-at-most → tie.Start
+entry-tested c = c .before .before .before .before .before .before .before .before
+
+lower : (c : tie.After-all-at-most) → c .all-at-most .result ≡ everyTwo leb (part possiblyAt (entry-tested c .args .m) (now (entry-tested c .args .a))) (part (certainlyAt (entry-tested c .args .m)) (entry-tested c .args .m) (now (entry-tested c .args .b)))
 lower c =
-    let m = c .before .before .before .before .before .before .before .before .args .m in
+    let m = entry-tested c .args .m in
     let p : 2 + m - 2 ≡ m = omega arith in
     let q : 2 + m + m - (2 + m) ≡ m = omega arith in
     rw (p, q) at (c .all-at-most .ensures)

@@ -73,19 +73,23 @@ enum-known-progress c = search needs
 
 -- ---- what it leaves
 
+-- the words at the loop's test
+abbrev turn : tie.After-try-job Inv-loop μ-loop → tie.In-loop Inv-loop μ-loop
+turn c = c .before .before .before .before .before .before
+
 -- no slice changes its length
-kept : (c : tie.After-try-job Inv-loop μ-loop) → (length (c .try-job .last .0) ≡ length (now (entry (c .before .before .before .before .before .before) .args .half))) × (length (c .try-job .last .1 .0) ≡ length (now (entry (c .before .before .before .before .before .before) .args .seen))) × (length (c .try-job .last .1 .1 .0) ≡ length (now (entry (c .before .before .before .before .before .before) .args .heads)))
+kept : (c : tie.After-try-job Inv-loop μ-loop) → (length (c .try-job .last .0) ≡ length (now (entry (turn c) .args .half))) × (length (c .try-job .last .1 .0) ≡ length (now (entry (turn c) .args .seen))) × (length (c .try-job .last .1 .1 .0) ≡ length (now (entry (turn c) .args .heads)))
 kept c =
-    let p = entry (c .before .before .before .before .before .before) .pre .0 in
-    let i = c .before .before .before .before .before .before .before .loop .inv .1 in
+    let p = entry (turn c) .pre .0 in
+    let i = turn c .before .loop .inv .1 in
     let k = c .try-job .kept in
     (k .0 ∙ i .sound .0 .long ∙ sym (p .target .0 .long), k .1 .0 ∙ i .observed .long ∙ sym (p .observed .long), k .1 .1 .0 ∙ i .sound .1 .long ∙ sym (p .target .1 .long))
 
 -- one candidate more is tried
-more : (c : tie.After-try-job Inv-loop μ-loop) → Tried (jobsIn (entry (c .before .before .before .before .before .before) .args .shape) (now (entry (c .before .before .before .before .before .before) .args .rows))) (entry (c .before .before .before .before .before .before) .args .shape) (stateIn (entry (c .before .before .before .before .before .before) .args .shape) (now (entry (c .before .before .before .before .before .before) .args .cur))) (now (entry (c .before .before .before .before .before .before) .args .list)) (λ x. goingIn (entry (c .before .before .before .before .before .before) .args .shape) (now (entry (c .before .before .before .before .before .before) .args .half)) (entry (c .before .before .before .before .before .before) .args .n) (now (entry (c .before .before .before .before .before .before) .args .seen)) x) (c .before .before .before .before .before .before .before .loop .t + 1) (c .try-job .result) (c .try-job .last .0) (c .try-job .last .1 .0) (c .try-job .last .1 .1 .0)
+more : (c : tie.After-try-job Inv-loop μ-loop) → Tried (jobsIn (entry (turn c) .args .shape) (now (entry (turn c) .args .rows))) (entry (turn c) .args .shape) (stateIn (entry (turn c) .args .shape) (now (entry (turn c) .args .cur))) (now (entry (turn c) .args .list)) (λ x. goingIn (entry (turn c) .args .shape) (now (entry (turn c) .args .half)) (entry (turn c) .args .n) (now (entry (turn c) .args .seen)) x) (turn c .before .loop .t + 1) (c .try-job .result) (c .try-job .last .0) (c .try-job .last .1 .0) (c .try-job .last .1 .1 .0)
 more c =
-    let a = entry (c .before .before .before .before .before .before) .args in
-    tried-more (jobsIn (a .shape) (now (a .rows))) (a .shape) (stateIn (a .shape) (now (a .cur))) (now (a .list)) (λ x. goingIn (a .shape) (now (a .half)) (a .n) (now (a .seen)) x) (c .before .before .before .before .before .before .before .loop .t) (c .before .before .before .before .before .before .loop-test .taken) (c .before .before .before .before .before .before .before .loop .inv .1) (c .try-job .ensures)
+    let a = entry (turn c) .args in
+    tried-more (jobsIn (a .shape) (now (a .rows))) (a .shape) (stateIn (a .shape) (now (a .cur))) (now (a .list)) (λ x. goingIn (a .shape) (now (a .half)) (a .n) (now (a .seen)) x) (turn c .before .loop .t) (turn c .loop-test .taken) (turn c .before .loop .inv .1) (c .try-job .ensures)
 
 same-length : tie.Need-same-length Inv-loop μ-loop
 same-length c = kept (c .before .before .before .before .before .before .before) .0
