@@ -112,9 +112,9 @@ pub fn try_jobs(
     let m = shape.cores;
     let bound = work_conserving_bound(rows, k, cur, m, list);
     let mut stored = n;
-    let mut t = 0;
-    while t < list.len() {
-        let i = list[t] as usize;
+    let mut at = 0;
+    while at < list.len() {
+        let i = list[at] as usize;
         let edge = edge_of(rows, k, cur, m, list, bound, i);
         let tried = Candidate { job: i, edge };
         let progress = try_job(half, seen, heads, stored, rows, cur, shape, tried);
@@ -122,7 +122,7 @@ pub fn try_jobs(
             return progress;
         };
         stored = x;
-        t += 1;
+        at += 1;
     }
     Progress::Going(stored)
 }

@@ -17,11 +17,11 @@ use Rattle.steps.proofs.explore.try_jobs.Statement.{statement}
 use Rattle.steps.proofs.explore.try_jobs.Tie as tie
 
 abbrev Inv-loop : tie.InvT-loop
-Inv-loop half₀ seen₀ heads₀ n rows cur shape list k m bound stored₀ t₀ half seen heads stored t =
-    (t ≤ length list) × Tried (jobsIn shape rows) shape (stateIn shape cur) list (λ c. goingIn shape half₀ n seen₀ c) t (Going stored) half seen heads
+Inv-loop half₀ seen₀ heads₀ n rows cur shape list k m bound stored₀ at₀ half seen heads stored at =
+    (at ≤ length list) × Tried (jobsIn shape rows) shape (stateIn shape cur) list (λ c. goingIn shape half₀ n seen₀ c) at (Going stored) half seen heads
 
 abbrev μ-loop : tie.MeasureT-loop
-μ-loop half₀ seen₀ heads₀ n rows cur shape list k m bound stored₀ t₀ half seen heads stored t = length list - t
+μ-loop half₀ seen₀ heads₀ n rows cur shape list k m bound stored₀ at₀ half seen heads stored at = length list - at
 
 -- ---- before the loop
 
@@ -51,10 +51,10 @@ abbrev entry : tie.In-loop Inv-loop μ-loop → tie.Start Inv-loop μ-loop
 entry c = c .before .before .before .before .before .before .before .before .before
 
 -- the listed job is a candidate
-asked : (c : tie.In-loop Inv-loop μ-loop) → (getD (now (entry c .args .list)) (c .before .loop .t) 0 < entry c .args .shape .jobs) × (candidate (jobsIn (entry c .args .shape) (now (entry c .args .rows))) (stateIn (entry c .args .shape) (now (entry c .args .cur))) (getD (now (entry c .args .list)) (c .before .loop .t) 0) ≡ true)
+asked : (c : tie.In-loop Inv-loop μ-loop) → (getD (now (entry c .args .list)) (c .before .loop .at) 0 < entry c .args .shape .jobs) × (candidate (jobsIn (entry c .args .shape) (now (entry c .args .rows))) (stateIn (entry c .args .shape) (now (entry c .args .cur))) (getD (now (entry c .args .list)) (c .before .loop .at) 0) ≡ true)
 asked c =
     let a = entry c .args in
-    listed-candidate (jobsIn (a .shape) (now (a .rows))) (stateIn (a .shape) (now (a .cur))) (a .shape .jobs) (now (a .list)) (entry c .pre .1) (c .before .loop .t) (omega arith)
+    listed-candidate (jobsIn (a .shape) (now (a .rows))) (stateIn (a .shape) (now (a .cur))) (a .shape .jobs) (now (a .list)) (entry c .pre .1) (c .before .loop .at) (omega arith)
 
 cast-i : tie.Need-cast-i Inv-loop μ-loop
 cast-i c = omega (arith, asked (c .before) .0)
@@ -86,10 +86,10 @@ kept c =
     (k .0 ∙ i .sound .0 .long ∙ sym (p .target .0 .long), k .1 .0 ∙ i .observed .long ∙ sym (p .observed .long), k .1 .1 .0 ∙ i .sound .1 .long ∙ sym (p .target .1 .long))
 
 -- one candidate more is tried
-more : (c : tie.After-try-job Inv-loop μ-loop) → Tried (jobsIn (entry (turn c) .args .shape) (now (entry (turn c) .args .rows))) (entry (turn c) .args .shape) (stateIn (entry (turn c) .args .shape) (now (entry (turn c) .args .cur))) (now (entry (turn c) .args .list)) (λ x. goingIn (entry (turn c) .args .shape) (now (entry (turn c) .args .half)) (entry (turn c) .args .n) (now (entry (turn c) .args .seen)) x) (turn c .before .loop .t + 1) (c .try-job .result) (c .try-job .last .0) (c .try-job .last .1 .0) (c .try-job .last .1 .1 .0)
+more : (c : tie.After-try-job Inv-loop μ-loop) → Tried (jobsIn (entry (turn c) .args .shape) (now (entry (turn c) .args .rows))) (entry (turn c) .args .shape) (stateIn (entry (turn c) .args .shape) (now (entry (turn c) .args .cur))) (now (entry (turn c) .args .list)) (λ x. goingIn (entry (turn c) .args .shape) (now (entry (turn c) .args .half)) (entry (turn c) .args .n) (now (entry (turn c) .args .seen)) x) (turn c .before .loop .at + 1) (c .try-job .result) (c .try-job .last .0) (c .try-job .last .1 .0) (c .try-job .last .1 .1 .0)
 more c =
     let a = entry (turn c) .args in
-    tried-more (jobsIn (a .shape) (now (a .rows))) (a .shape) (stateIn (a .shape) (now (a .cur))) (now (a .list)) (λ x. goingIn (a .shape) (now (a .half)) (a .n) (now (a .seen)) x) (turn c .before .loop .t) (turn c .loop-test .taken) (turn c .before .loop .inv .1) (c .try-job .ensures)
+    tried-more (jobsIn (a .shape) (now (a .rows))) (a .shape) (stateIn (a .shape) (now (a .cur))) (now (a .list)) (λ x. goingIn (a .shape) (now (a .half)) (a .n) (now (a .seen)) x) (turn c .before .loop .at) (turn c .loop-test .taken) (turn c .before .loop .inv .1) (c .try-job .ensures)
 
 same-length : tie.Need-same-length Inv-loop μ-loop
 same-length c = kept (c .before .before .before .before .before .before .before) .0
@@ -103,10 +103,10 @@ same-length-3 c = kept (c .before .before .before .before .before .before .befor
 returns : tie.Need-returns Inv-loop μ-loop
 returns c =
     let a = entry (c .before .before .before .before .before .before .before .before .before .before .before .before .before) .args in
-    tried-enough (jobsIn (a .shape) (now (a .rows))) (a .shape) (stateIn (a .shape) (now (a .cur))) (now (a .list)) (λ x. goingIn (a .shape) (now (a .half)) (a .n) (now (a .seen)) x) (entry (c .before .before .before .before .before .before .before .before .before .before .before .before .before) .pre .1) (c .before .before .before .before .before .before .before .before .before .before .before .before .before .before .loop .t + 1) (c .match .keys2) (more (c .before .before .before .before .before .before .before))
+    tried-enough (jobsIn (a .shape) (now (a .rows))) (a .shape) (stateIn (a .shape) (now (a .cur))) (now (a .list)) (λ x. goingIn (a .shape) (now (a .half)) (a .n) (now (a .seen)) x) (entry (c .before .before .before .before .before .before .before .before .before .before .before .before .before) .pre .1) (c .before .before .before .before .before .before .before .before .before .before .before .before .before .before .loop .at + 1) (c .match .keys2) (more (c .before .before .before .before .before .before .before))
 
-add-t : tie.Need-add-t Inv-loop μ-loop
-add-t c = omega (arith, c .before .before .before .before .before .before .before .before .before .before .before .before .before .before .before .loop-test .taken, entry (c .before .before .before .before .before .before .before .before .before .before .before .before .before .before .before) .good)
+add-at : tie.Need-add-at Inv-loop μ-loop
+add-at c = omega (arith, c .before .before .before .before .before .before .before .before .before .before .before .before .before .before .before .loop-test .taken, entry (c .before .before .before .before .before .before .before .before .before .before .before .before .before .before .before) .good)
 
 loop-less : tie.Need-loop-less Inv-loop μ-loop
 loop-less c = search needs
@@ -115,7 +115,7 @@ loop-again : tie.Need-loop-again Inv-loop μ-loop
 loop-again c =
     let a = entry (c .before .before .before .before .before .before .before .before .before .before .before .before .before .before .before) .args in (
       omega (arith, c .before .before .before .before .before .before .before .before .before .before .before .before .before .before .before .loop-test .taken),
-      subst (λ (z : Progress). Tried (jobsIn (a .shape) (now (a .rows))) (a .shape) (stateIn (a .shape) (now (a .cur))) (now (a .list)) (λ x. goingIn (a .shape) (now (a .half)) (a .n) (now (a .seen)) x) (c .before .before .before .before .before .before .before .before .before .before .before .before .before .before .before .before .loop .t + 1) z (c .before .before .before .before .before .before .before .before .before .try-job .last .0) (c .before .before .before .before .before .before .before .before .before .try-job .last .1 .0) (c .before .before .before .before .before .before .before .before .before .try-job .last .1 .1 .0)) (c .before .progress .given .1) (more (c .before .before .before .before .before .before .before .before .before)),
+      subst (λ (z : Progress). Tried (jobsIn (a .shape) (now (a .rows))) (a .shape) (stateIn (a .shape) (now (a .cur))) (now (a .list)) (λ x. goingIn (a .shape) (now (a .half)) (a .n) (now (a .seen)) x) (c .before .before .before .before .before .before .before .before .before .before .before .before .before .before .before .before .loop .at + 1) z (c .before .before .before .before .before .before .before .before .before .try-job .last .0) (c .before .before .before .before .before .before .before .before .before .try-job .last .1 .0) (c .before .before .before .before .before .before .before .before .before .try-job .last .1 .1 .0)) (c .before .progress .given .1) (more (c .before .before .before .before .before .before .before .before .before)),
     )
 
 -- ---- after the last
@@ -132,7 +132,7 @@ same-length-6 c = search needs
 returns-2 : tie.Need-returns-2 Inv-loop μ-loop
 returns-2 c =
     let a = c .before .before .before .before .before .before .before .before .before .args in
-    tried-all (jobsIn (a .shape) (now (a .rows))) (a .shape) (stateIn (a .shape) (now (a .cur))) (now (a .list)) (λ x. goingIn (a .shape) (now (a .half)) (a .n) (now (a .seen)) x) (c .before .before .before .before .before .before .before .before .before .pre .1) (c .before .loop .t) (omega arith) (c .before .loop .inv .1)
+    tried-all (jobsIn (a .shape) (now (a .rows))) (a .shape) (stateIn (a .shape) (now (a .cur))) (now (a .list)) (λ x. goingIn (a .shape) (now (a .half)) (a .n) (now (a .seen)) x) (c .before .before .before .before .before .before .before .before .before .pre .1) (c .before .loop .at) (omega arith) (c .before .loop .inv .1)
 
 pub try-jobs-spec : {M : Type 1} → statement M
 try-jobs-spec =
@@ -152,7 +152,7 @@ try-jobs-spec =
     same-length-2
     same-length-3
     returns
-    add-t
+    add-at
     loop-less
     loop-again
     same-length-4
