@@ -17,7 +17,7 @@ use Rattle.model.specs.internal.Bounds.{Bounded}
 use Rattle.words.specs.Tabulate.{tabulate}
 use Rattle.words.proofs.Parts.{part-length, part-same, length-put}
 use Rattle.words.specs.internal.Parts.{part}
-use Rattle.jobs.specs.Rows.{jobsOf}
+use Rattle.jobs.specs.internal.JobRow.{jobsOfRows}
 use Rattle.jobs.proofs.Jobs.{length-jobs}
 use Rattle.states.specs.internal.Slots.{setOf, stateOf, slotOf, statesOf, Sound}
 use Rattle.store.specs.internal.Half.{buckets}
@@ -70,19 +70,19 @@ cut a b = omega arith
 -- j of the n states are explored, and have left so many in the other half
 pub record Building (rows : List ℕ) (k m cap from to n : ℕ) (table₀ seen₀ table seen heads : List ℕ) (built j : ℕ) : Type 0 where
   pub halves : Halves (length table₀) (cap * stateWords m k) from to
-  pub given : Half (jobsOf rows k) m k cap (part from (cap * stateWords m k) table₀) n
+  pub given : Half (jobsOfRows rows k) m k cap (part from (cap * stateWords m k) table₀) n
   pub upto : j ≤ n
   pub long : length table ≡ length table₀
-  pub target : Target (jobsOf rows k) m k cap (part to (cap * stateWords m k) table) heads built
+  pub target : Target (jobsOfRows rows k) m k cap (part to (cap * stateWords m k) table) heads built
   pub frame : table ≡ putMid to (cap * stateWords m k) table₀ (part to (cap * stateWords m k) table)
   pub observed : Observed k seen
   pub rest : (c : ℕ) →
-      tryStates (jobsOf rows k) cap (tabulate (λ (i : ℕ). stateOf m k (slotOf m k (part from (cap * stateWords m k) table₀) i)) j (n - j)) (going (statesOf m k (part to (cap * stateWords m k) table) built) (observedOf k seen) c)
-      ≡ tryStates (jobsOf rows k) cap (statesOf m k (part from (cap * stateWords m k) table₀) n) (going [] (observedOf k seen₀) c)
+      tryStates (jobsOfRows rows k) cap (tabulate (λ (i : ℕ). stateOf m k (slotOf m k (part from (cap * stateWords m k) table₀) i)) j (n - j)) (going (statesOf m k (part to (cap * stateWords m k) table) built) (observedOf k seen) c)
+      ≡ tryStates (jobsOfRows rows k) cap (statesOf m k (part from (cap * stateWords m k) table₀) n) (going [] (observedOf k seen₀) c)
 
 -- before the first state, nothing is built
 pub building-starts : {rows : List ℕ} {k m cap from to n : ℕ} {table seen heads : List ℕ} → Halves (length table) (cap * stateWords m k) from to
-    → Half (jobsOf rows k) m k cap (part from (cap * stateWords m k) table) n → Observed k seen → length heads ≡ buckets → Building rows k m cap from to n table seen table seen heads 0 0
+    → Half (jobsOfRows rows k) m k cap (part from (cap * stateWords m k) table) n → Observed k seen → length heads ≡ buckets → Building rows k m cap from to n table seen table seen heads 0 0
 unfolding statesOf tabulate
 building-starts {rows} {k} {m} {cap} {from} {to} {n} {table} {seen} {heads} h g o l =
     record {
@@ -97,13 +97,13 @@ building-starts {rows} {k} {m} {cap} {from} {to} {n} {table} {seen} {heads} h g 
       frame = sym (put-same to (cap * stateWords m k) table);
       observed = o;
       rest = λ c.
-          ap (λ (z : ℕ). tryStates (jobsOf rows k) cap (tabulate (λ (i : ℕ). stateOf m k (slotOf m k (part from (cap * stateWords m k) table) i)) 0 z) (going [] (observedOf k seen) c))
+          ap (λ (z : ℕ). tryStates (jobsOfRows rows k) cap (tabulate (λ (i : ℕ). stateOf m k (slotOf m k (part from (cap * stateWords m k) table) i)) 0 z) (going [] (observedOf k seen) c))
           (sub-zero n);
     }
 
 module _ {rows : List ℕ} {k m cap from to n : ℕ} {table₀ seen₀ table seen heads : List ℕ} {built j : ℕ} (before : Building rows k m cap from to n table₀ seen₀ table seen heads built j) where
   abbrev js : List Job
-  js = jobsOf rows k
+  js = jobsOfRows rows k
 
   abbrev W : ℕ
   W = stateWords m k

@@ -21,7 +21,7 @@ use Rattle.words.specs.Tabulate.{tabulate}
 use Rattle.words.proofs.Tabulate.{tabulate-is}
 use Rattle.words.proofs.Parts.{part-length, part-get, part-same, length-put, drop-after}
 use Rattle.words.specs.internal.Parts.{part}
-use Rattle.jobs.specs.Rows.{jobsOf}
+use Rattle.jobs.specs.internal.JobRow.{jobsOfRows}
 use Rattle.jobs.proofs.Jobs.{length-jobs}
 use Rattle.states.specs.internal.Slots.{possiblyAt, certainlyAt, setOf, rangeAt, stateOf, slotOf, statesOf, Sound}
 use Rattle.states.proofs.Frames.{same-state}
@@ -60,12 +60,12 @@ module _ (m k : ℕ) where
       (tabulate-is (rangeAt m k (zeros W)) k (replicate k empty) empty (length-replicate k empty) (λ i h. rw (zeros-set W, zero-div (2 ^ i)) (sym (getD-same k i empty))))
       (zeros-part W possiblyAt m (omega arith)) (zeros-part W (certainlyAt m) m (omega arith))
 
-  zeros-sound : (rows : List ℕ) → TimedUpTo latestTime (jobsOf rows k) → Sound (jobsOf rows k) m k (zeros W)
+  zeros-sound : (rows : List ℕ) → TimedUpTo latestTime (jobsOfRows rows k) → Sound (jobsOfRows rows k) m k (zeros W)
   zeros-sound rows t =
       record {
         set-fits = rw (zeros-set W) (pow-pos k);
         bounded =
-            subst (Bounded (jobsOf rows k) latestTime) (ap (initial m) (length-jobs rows k) ∙ sym zeros-state) (initial-bounded (jobsOf rows k) latestTime t m);
+            subst (Bounded (jobsOfRows rows k) latestTime) (ap (initial m) (length-jobs rows k) ∙ sym zeros-state) (initial-bounded (jobsOfRows rows k) latestTime t m);
       }
 
 -- ---- nothing observed
@@ -101,7 +101,7 @@ twice w = omega arith
 -- by what the code takes for the words of a state
 module _ (rows : List ℕ) (k m : ℕ) (table : List ℕ) {w : ℕ} (wide : w ≡ stateWords m k) where
   abbrev js : List Job
-  js = jobsOf rows k
+  js = jobsOfRows rows k
 
   abbrev width : ℕ
   width = stateWords m k

@@ -14,7 +14,7 @@ use Rattle.model.proofs.Coverage.{kept-from}
 use Rattle.words.proofs.Tabulate.{length-tabulate}
 use Rattle.words.proofs.Parts.{part-length, drop-after}
 use Rattle.words.specs.internal.Parts.{part}
-use Rattle.jobs.specs.Rows.{jobsOf}
+use Rattle.jobs.specs.internal.JobRow.{jobsOfRows}
 use Rattle.jobs.proofs.Jobs.{length-jobs}
 use Rattle.states.specs.internal.Slots.{stateOf, slotOf, statesOf}
 use Rattle.steps.specs.internal.Observed.{observedOf, Observed}
@@ -58,16 +58,16 @@ pub record LevelsBuilt (rows : List ℕ) (k m cap : ℕ) (table₀ table seen : 
   pub upto : level ≤ k
   pub long : length table ≡ length table₀
   pub roles : Roles (cap * stateWords m k) from to
-  pub half : Half (jobsOf rows k) m k cap (part from (cap * stateWords m k) table) n
+  pub half : Half (jobsOfRows rows k) m k cap (part from (cap * stateWords m k) table) n
   pub observed : Observed k seen
   pub past : drop (2 * (cap * stateWords m k)) table ≡ drop (2 * (cap * stateWords m k)) table₀
   pub few : count ≤ 1 + level * cap
-  pub same : going (statesOf m k (part from (cap * stateWords m k) table) n) (observedOf k seen) count ≡ explored (jobsOf rows k) m cap level
+  pub same : going (statesOf m k (part from (cap * stateWords m k) table) n) (observedOf k seen) count ≡ explored (jobsOfRows rows k) m cap level
 
 -- before the first, level 0 is complete
 pub levels-begin : {rows : List ℕ} {k m cap : ℕ} {table seen : List ℕ} {w : ℕ} → 2 * (cap * stateWords m k) ≤ length table → w ≡ stateWords m k
-    → Half (jobsOf rows k) m k cap (part 0 (cap * stateWords m k) table) 1 → Observed k seen
-    → going (statesOf m k (part 0 (cap * stateWords m k) table) 1) (observedOf k seen) 1 ≡ explored (jobsOf rows k) m cap 0 → LevelsBuilt rows k m cap table table seen 0 (cap * w) 1 1 0
+    → Half (jobsOfRows rows k) m k cap (part 0 (cap * stateWords m k) table) 1 → Observed k seen
+    → going (statesOf m k (part 0 (cap * stateWords m k) table) 1) (observedOf k seen) 1 ≡ explored (jobsOfRows rows k) m cap 0 → LevelsBuilt rows k m cap table table seen 0 (cap * w) 1 1 0
 levels-begin {cap = cap} r e h o s =
     record {
       room = r;
@@ -83,7 +83,7 @@ levels-begin {cap = cap} r e h o s =
 
 module _ {rows : List ℕ} {k m cap : ℕ} {table₀ table seen : List ℕ} {from to n count level : ℕ} (before : LevelsBuilt rows k m cap table₀ table seen from to n count level) where
   abbrev js : List Job
-  js = jobsOf rows k
+  js = jobsOfRows rows k
 
   abbrev size : ℕ
   size = cap * stateWords m k

@@ -6,7 +6,7 @@ ghost use lib.ListN.{length, drop};
 ghost use borrow.Rule.Slice.PartMut.{putMid};
 ghost use Rattle.model.specs.Exploration.{stateWords, capacity, going, tryStates, explored, analysis};
 ghost use Rattle.words.specs.internal.Parts.{part};
-ghost use Rattle.jobs.specs.Rows.{Setting, jobsOf};
+ghost use Rattle.jobs.specs.internal.JobRow.{Setting, jobsOfRows};
 ghost use Rattle.states.specs.internal.Slots.{statesOf};
 ghost use Rattle.edges.specs.internal.Edges.{PredecessorSets};
 ghost use Rattle.store.specs.internal.Half.{buckets};
@@ -148,7 +148,7 @@ pub fn build_levels(table: &mut [u32], seen: &mut [u32], rows: &[u32], shape: Sh
 // The analysis of k jobs on m cores: each half of the table has room for as many states as it takes whole.
 pub fn analyse(table: &mut [u32], seen: &mut [u32], rows: &[u32], k: usize, m: usize) -> Analysed
     requires { ⌜ Setting (now rows) k m × (length (now seen) ≡ observedWords) ⌝ }
-    ensures { λ r. ⌜ verdictIn k r (now (seen .exit)) ≡ analysis (jobsOf (now (rows .entry)) k) m (capacity (length (now (table .entry))) m k) ⌝ }
+    ensures { λ r. ⌜ verdictIn k r (now (seen .exit)) ≡ analysis (jobsOfRows (now (rows .entry)) k) m (capacity (length (now (table .entry))) m k) ⌝ }
     ensures { λ _. ⌜ Observed k (now (seen .exit)) ⌝ }
     ensures { λ _. ⌜ drop (2 * (capacity (length (now (table .entry))) m k * stateWords m k)) (now (table .exit))
         ≡ drop (2 * (capacity (length (now (table .entry))) m k * stateWords m k)) (now (table .entry)) ⌝ }

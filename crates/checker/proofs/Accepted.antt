@@ -16,12 +16,12 @@ use Rattle.model.proofs.Induction.{WhileGoing}
 use Rattle.model.proofs.Bounds.{level-bounded}
 use Rattle.model.specs.internal.Bounds.{TimedUpTo, Between}
 use Rattle.model.proofs.Soundness.{all-reported}
-use Rattle.jobs.specs.Rows.{jobsOf, Setting}
+use Rattle.jobs.specs.internal.JobRow.{jobsOfRows, Setting}
 use Rattle.jobs.proofs.Jobs.{length-jobs}
 use Rattle.ranges.specs.internal.Ranges.{rangeIn}
 use Rattle.steps.specs.internal.Observed.{observedOf, Observed}
 use Rattle.steps.proofs.Ranges.{observed-at}
-use Rattle.checker.specs.Finished.{Finished}
+use Rattle.checker.specs.internal.Finishes.{FinishesObserved}
 
 while-accepted : (P : List State → List Range → Type 0) (x : Exploration) (bounds : List Range) (c : ℕ) → verdictOf x ≡ accepted bounds c → WhileGoing P x
     → (l : List State) × P l bounds
@@ -35,6 +35,7 @@ pub record Reported (js : List Job) (d : ℕ) (bounds : List Range) : Type 0 whe
   pub ranged : (i : ℕ) → i < length js → isRange (getD bounds i empty) ≡ true
   pub between : (i : ℕ) → Between (job js i .earliestRelease) d (getD bounds i empty)
 
+-- An accepting analysis reports such bounds.
 pub reported : (js : List Job) (m cap d : ℕ) → WellFormed js m → TimedUpTo d js → (bounds : List Range) (c : ℕ) → analysis js m cap ≡ accepted bounds c → Reported js d bounds
 unfolding analysis
 reported js m cap d wf timed bounds c e =
@@ -55,8 +56,9 @@ in-words a d e f = go (eqb f 0) refl
     go true q r h = absurd (false≢true r)
     go false q r h = omega (arith, eqb-false f 0 q)
 
-pub all-finished : (rows seen : List ℕ) (k m cap c : ℕ) → Setting rows k m → WellFormed (jobsOf rows k) m → Observed k seen
-    → analysis (jobsOf rows k) m cap ≡ accepted (observedOf k seen) c → Finished rows k seen
+-- Where the analysis accepts, every job was observed to finish, after its earliest release.
+pub all-finished : (rows seen : List ℕ) (k m cap c : ℕ) → Setting rows k m → WellFormed (jobsOfRows rows k) m → Observed k seen
+    → analysis (jobsOfRows rows k) m cap ≡ accepted (observedOf k seen) c → FinishesObserved rows k seen
 all-finished rows seen k m cap c set wf obs e =
     record {
       rows-of = set .rows-of;
@@ -67,11 +69,11 @@ all-finished rows seen k m cap c set wf obs e =
       finished = λ i b. words i b .2;
     }
   where
-    told : Reported (jobsOf rows k) latestTime (observedOf k seen)
-    told = reported (jobsOf rows k) m cap latestTime wf (set .timed) (observedOf k seen) c e
+    given : Reported (jobsOfRows rows k) latestTime (observedOf k seen)
+    given = reported (jobsOfRows rows k) m cap latestTime wf (set .timed) (observedOf k seen) c e
 
     words : (i : ℕ) → i < k
-        → (job (jobsOf rows k) i .earliestRelease ≤ getD seen i 0) × (getD seen i 0 ≤ getD seen (mostJobs + i) 0) × (1 ≤ getD seen (mostJobs + i) 0)
+        → (job (jobsOfRows rows k) i .earliestRelease ≤ getD seen i 0) × (getD seen i 0 ≤ getD seen (mostJobs + i) 0) × (1 ≤ getD seen (mostJobs + i) 0)
     words i b =
-        in-words (job (jobsOf rows k) i .earliestRelease) latestTime (getD seen i 0) (getD seen (mostJobs + i) 0)
-        (rw (observed-at k seen i b) at (told .ranged i (omega (arith, length-jobs rows k)))) (rw (observed-at k seen i b) at (told .between i))
+        in-words (job (jobsOfRows rows k) i .earliestRelease) latestTime (getD seen i 0) (getD seen (mostJobs + i) 0)
+        (rw (observed-at k seen i b) at (given .ranged i (omega (arith, length-jobs rows k)))) (rw (observed-at k seen i b) at (given .between i))

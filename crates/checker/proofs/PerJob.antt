@@ -25,6 +25,7 @@ module _ (k : ℕ) (f : ℕ → ℕ) (few : k ≤ mostJobs) where
   unfolding perJob
   per-job-length = omega (arith, length-append (tabulate f 0 k) zeros, length-replicate {A = ℕ} (mostJobs - length (tabulate f 0 k)) 0, length-tabulate f 0 k)
 
+  -- Such an array holds the word of each job.
   pub per-job-at : (i : ℕ) → i < k → getD (perJob k f) i 0 ≡ f i
   unfolding perJob
   per-job-at i b = List·getD-append (tabulate f 0 k) zeros 0 i (omega (arith, length-tabulate f 0 k)) ∙ getD-tabulate f 0 k i 0 b ∙ ap f (zero-add i)
@@ -44,11 +45,13 @@ module _ (k : ℕ) (f : ℕ → ℕ) (few : k ≤ mostJobs) where
       go i b true q = h i (ltb-true i k q) ∙ sym (per-job-at i (ltb-true i k q))
       go i b false q = z i (ltb-false i k q) (omega (arith, e)) ∙ sym (per-job-after i (ltb-false i k q))
 
+-- Arrays of words that agree for every job are the same.
 pub per-job-ext : (k : ℕ) (f g : ℕ → ℕ) → ((i : ℕ) → i < k → f i ≡ g i) → perJob k f ≡ perJob k g
 unfolding perJob
 per-job-ext k f g h =
     ap (λ l. padded mostJobs l) (tabulate-ext f g 0 k (λ i b. rw zero-add (h i b)))
 
+-- With no job there are only zeros.
 pub per-job-none : (f : ℕ → ℕ) → replicate mostJobs 0 ≡ perJob 0 f
 per-job-none f = per-job-is 0 f (omega arith) (replicate mostJobs 0) (length-replicate {A = ℕ} mostJobs 0) (λ i b. omega (arith, b)) (λ i b q. getD-same mostJobs i 0)
 

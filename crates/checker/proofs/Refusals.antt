@@ -9,26 +9,30 @@ use Rattle.model.specs.Jobs.{Job}
 use Rattle.model.specs.Exploration.{accepted, refused, late, analysis}
 use Rattle.model.specs.Exploration.{Verdict}
 use Rattle.model.proofs.Places.{refused-within, late-within}
-use Rattle.format.specs.Phrase.{Phrase, jobsOf}
-use Rattle.format.specs.Reading.{mostBytes, Outcome, ok, reading}
-use Rattle.format.specs.Reading.{refused as unread}
-use Rattle.format.specs.Valid.{AreBytes}
+use Rattle.format.specs.Phrase.{Phrase}
+use Rattle.format.specs.Jobs.{jobsOf}
+use Rattle.format.specs.Layout.{first, mostBytes}
+use Rattle.format.specs.Outcome.{Outcome, ok}
+use Rattle.format.specs.Reading.{reading}
+use Rattle.format.specs.Outcome.{refused as unread}
+use Rattle.format.specs.Bytes.{AreBytes}
+use Rattle.format.proofs.First.{first-bytes}
 use Rattle.format.proofs.Refusals.{refused-within as unread-within}
-use Rattle.checker.specs.Checking.{capacityFor, verdict, toldFor}
-use Rattle.checker.proofs.Promise.{can-analyse}
+use Rattle.checker.specs.Checking.{capacityFor, verdict, answerFor, valuesOf}
+use Rattle.checker.proofs.Promise.{few-jobs}
 
 -- a level, or a job
-analysed-place : (js : List Job) (m cap : ℕ) → length js ≤ mostJobs → (v : Verdict) → analysis js m cap ≡ v → toldFor v .place ≤ mostJobs
+analysed-place : (js : List Job) (m cap : ℕ) → length js ≤ mostJobs → (v : Verdict) → analysis js m cap ≡ v → valuesOf (answerFor v) .place ≤ mostJobs
 analysed-place js m cap few (accepted bounds c) e = omega arith
 analysed-place js m cap few (refused n at) e = omega (arith, refused-within js m cap n at e)
 analysed-place js m cap few (late i x y) e = omega (arith, late-within js m cap i x y e)
 
 module _ (file : List ℕ) (bytes : AreBytes file) (words : ℕ) where
-  verdict-place : (o : Outcome Phrase) → reading file ≡ o → toldFor (verdict o words) .place ≤ mostBytes
+  verdict-place : (o : Outcome Phrase) → reading file ≡ o → valuesOf (answerFor (verdict o words)) .place ≤ mostBytes first
   verdict-place (ok x) e =
-      omega (arith, analysed-place (jobsOf x) (x .cores) (capacityFor x words) (can-analyse file bytes x e .jobCount) (verdict (ok x) words) refl)
+      omega (arith, first-bytes, analysed-place (jobsOf x) (x .cores) (capacityFor x words) (few-jobs file bytes x e) (verdict (ok x) words) refl)
   verdict-place (unread n at) e = omega (arith, unread-within file n at e)
 
   -- No place is beyond the longest file of a phrase.
-  pub place-within : toldFor (verdict (reading file) words) .place ≤ mostBytes
+  pub place-within : valuesOf (answerFor (verdict (reading file) words)) .place ≤ mostBytes first
   place-within = verdict-place (reading file) refl

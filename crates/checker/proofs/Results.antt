@@ -13,22 +13,22 @@ use Rattle.model.specs.Jobs.{Job, job}
 use Rattle.model.specs.States.{Range, empty, range, isRange, earliest, latest}
 use Rattle.model.specs.Exploration.{accepted}
 use Rattle.words.proofs.Tabulate.{tabulate-is}
-use Rattle.jobs.specs.Rows.{jobsOf}
+use Rattle.jobs.specs.internal.JobRow.{jobsOfRows}
 use Rattle.jobs.proofs.Jobs.{length-jobs}
 use Rattle.steps.specs.internal.Observed.{observedOf}
 use Rattle.steps.proofs.Ranges.{observed-at}
 use Rattle.checker.specs.Checking.{perJob, resultOf, boundOf, boundsOf}
-use Rattle.checker.specs.Finished.{releaseOf, responseOf, Released, Finished}
-use Rattle.checker.specs.declared.Answer.the-variants.{Accepted}
-use Rattle.checker.specs.declared.Checked.{Checked}
+use Rattle.checker.specs.internal.Finishes.{releaseOf, responseOf, Released, FinishesObserved}
+use Rattle.checker.specs.declared.result.Answer.the-variants.{Accepted}
+use Rattle.checker.specs.declared.result.Checked.{Checked}
 use Rattle.checker.proofs.PerJob.{per-job-at, per-job-is, per-job-ext}
 use Rattle.checker.proofs.Accepted.{Reported}
 
 -- ---- from the words
 
-module _ (rows : List ℕ) (k : ℕ) (seen : List ℕ) (h : Finished rows k seen) where
+module _ (rows : List ℕ) (k : ℕ) (seen : List ℕ) (h : FinishesObserved rows k seen) where
   abbrev js : List Job
-  js = jobsOf rows k
+  js = jobsOfRows rows k
 
   abbrev bounds : List Range
   bounds = observedOf k seen
@@ -77,12 +77,15 @@ module _ (rows : List ℕ) (k : ℕ) (seen : List ℕ) (h : Finished rows k seen
   high : mostJobs + mostJobs ≤ length seen
   high = omega (arith, h .observed .long)
 
+  -- No job finishes at its earliest time before its earliest release.
   pub earliest-released : Released rows k (take mostJobs (drop 0 seen))
   earliest-released i b = omega (arith, h .released i b, end-at 0 earliest low earliest-here earliest-beyond i b, ap earliest (bound-at i b))
 
+  -- Nor at its latest time.
   pub latest-released : Released rows k (take mostJobs (drop mostJobs seen))
   latest-released i b = omega (arith, h .released i b, h .in-order i b, end-at mostJobs latest high latest-here latest-beyond i b, ap latest (bound-at i b))
 
+  -- Arrays of these finish times and responses are those of the result.
   pub accepted-result : (c : ℕ) (e l b w : List ℕ) → e ≡ take mostJobs (drop 0 seen) → l ≡ take mostJobs (drop mostJobs seen)
       → b ≡ perJob k (responseOf rows k e) → w ≡ perJob k (responseOf rows k l)
       → _≡_ {A = Checked} (record { answer = Accepted; jobs = k; earliest = e; latest = l; best = b; worst = w; states = c }) (resultOf js (accepted bounds c))
@@ -103,9 +106,9 @@ from-ends (range e f) q = refl
 -- An accepted result's bounds are the analysis's.
 pub bounds-back : (js : List Job) (d : ℕ) (bounds : List Range) (c : ℕ) → length js ≤ mostJobs → Reported js d bounds → boundsOf (resultOf js (accepted bounds c)) ≡ bounds
 unfolding boundsOf
-bounds-back js d bounds c few told =
-    tabulate-is (boundOf (resultOf js (accepted bounds c))) (length js) bounds empty (told .all-jobs)
+bounds-back js d bounds c few given =
+    tabulate-is (boundOf (resultOf js (accepted bounds c))) (length js) bounds empty (given .all-jobs)
     (λ i b.
     (λ n.
     range (per-job-at (length js) (λ i. earliest (getD bounds i empty)) few i b n) (per-job-at (length js) (λ i. latest (getD bounds i empty)) few i b n))
-    ∙ from-ends (getD bounds i empty) (told .ranged i b))
+    ∙ from-ends (getD bounds i empty) (given .ranged i b))

@@ -1,20 +1,25 @@
 -- The check of a phrase file over a lent table: its verdict, and the result that carries it. Assumes nothing.
 use Prim.Native.Nat.{ℕ, _-_, _*_}
+use mathlib.Core.Path.{_≡_}
 use mathlib.Core.List.{List, []}
-use lib.ListN.{getD, length, replicate}
+use lib.ListN.{getD, length, drop, replicate}
 use Rattle.model.specs.Limits.{mostJobs}
+use Rattle.model.specs.Refusals.{lateJob}
 use Rattle.model.specs.Jobs.{Job, job}
 use Rattle.model.specs.States.{Range, empty, range, earliest, latest}
+use Rattle.model.specs.Dispatch.{Scenario}
 use Rattle.model.specs.Exploration.{accepted, refused, late, analysis, stateWords, capacity}
 use Rattle.model.specs.Exploration.{Verdict}
+use Rattle.model.specs.Guarantee.{Admissible, Kept}
 use Rattle.words.specs.Tabulate.{tabulate}
-use Rattle.format.specs.Phrase.{Phrase, jobsOf}
-use Rattle.format.specs.Reading.{Outcome, ok}
-use Rattle.format.specs.Reading.{refused as unread}
 use Rattle.words.specs.Padded.{padded}
-use Rattle.checker.specs.declared.Answer.{Answer}
-use Rattle.checker.specs.declared.Answer.the-variants.{Accepted, Refused, Late}
-use Rattle.checker.specs.declared.Checked.{Checked}
+use Rattle.format.specs.Phrase.{Phrase}
+use Rattle.format.specs.Jobs.{jobsOf}
+use Rattle.format.specs.Outcome.{Outcome, ok}
+use Rattle.format.specs.Outcome.{refused as unread}
+use Rattle.checker.specs.declared.result.Answer.{Answer}
+use Rattle.checker.specs.declared.result.Answer.the-variants.{Accepted, Refused, Late}
+use Rattle.checker.specs.declared.result.Checked.{Checked}
 
 -- ---- the verdict, for a reading and a table of so many words
 
@@ -35,6 +40,10 @@ levelWords words m k = 2 * (capacity words m k * stateWords m k)
 abbrev pub usedWords : Outcome Phrase → ℕ → ℕ
 usedWords (ok x) words = levelWords words (x .cores) (length (jobsOf x))
 usedWords (unread n at) words = 0
+
+-- The table before and after: every word that may not change is as before.
+abbrev pub TableKept : Outcome Phrase → List ℕ → List ℕ → Type 0
+TableKept o before after = drop (usedWords o (length before)) after ≡ drop (usedWords o (length before)) before
 
 -- ---- the result that carries it
 
@@ -83,28 +92,43 @@ checkedOf o words = resultOf (jobsRead o) (verdict o words)
 
 -- ---- what a result says
 
+-- the answer that a verdict gives
+abbrev pub answerFor : Verdict → Answer
+answerFor (accepted bounds c) = Accepted
+answerFor (refused n at) = Refused n at
+answerFor (late i e f) = Late i e f
+
 -- what document 01 writes of an answer: the number of a refusal and its place; of a late job the finish times
-pub record Told : Type 0 where
+pub record Values : Type 0 where
   pub number : ℕ
   pub place : ℕ
   pub earliest : ℕ
   pub latest : ℕ
 
 -- 0 for what was accepted
-abbrev pub toldOf : Answer → Told
-toldOf Accepted = record { number = 0; place = 0; earliest = 0; latest = 0 }
-toldOf (Refused n at) = record { number = n; place = at; earliest = 0; latest = 0 }
-toldOf (Late i e f) = record { number = 14; place = i; earliest = e; latest = f }
+abbrev pub valuesOf : Answer → Values
+valuesOf Accepted = record { number = 0; place = 0; earliest = 0; latest = 0 }
+valuesOf (Refused n at) = record { number = n; place = at; earliest = 0; latest = 0 }
+valuesOf (Late i e f) = record { number = lateJob; place = i; earliest = e; latest = f }
 
-abbrev pub toldFor : Verdict → Told
-toldFor (accepted bounds c) = record { number = 0; place = 0; earliest = 0; latest = 0 }
-toldFor (refused n at) = record { number = n; place = at; earliest = 0; latest = 0 }
-toldFor (late i e f) = record { number = 14; place = i; earliest = e; latest = f }
-
--- the bounds that a result reports, read off its arrays
+-- the bounds of job i that a result reports, read off its arrays
 abbrev pub boundOf : Checked → ℕ → Range
 boundOf r i = range (getD (r .earliest) i 0) (getD (r .latest) i 0)
 
+-- the bounds of every job
 unfoldable pub boundsOf : Checked → List Range
 unfolding tabulate
 boundsOf r = tabulate (boundOf r) 0 (r .jobs)
+
+-- ---- what is promised of every run (demand 3)
+
+-- A phrase was read and accepted, and every run of it keeps the bounds of this verdict.
+abbrev pub Playable : Outcome Phrase → Verdict → Type 0
+Playable (ok x) (accepted bounds c) = (s : Scenario) → Admissible (jobsOf x) s → Kept (jobsOf x) (x .cores) bounds s
+Playable (ok x) (refused n at) = ⊥
+Playable (ok x) (late i e f) = ⊥
+Playable (unread n at) v = ⊥
+
+-- Where a result accepts, the phrase is playable with the bounds that stand in the result's own arrays.
+abbrev pub RunsKept : Outcome Phrase → Checked → Type 0
+RunsKept o r = r .answer ≡ Accepted → Playable o (accepted (boundsOf r) (r .states))

@@ -1,4 +1,4 @@
--- The check of a phrase file: its verdict, and the result that carries it.
+-- The check of a phrase file: its verdict, the result that carries it, and the promise about every run.
 pub mod Checking
-pub mod Finished
-pub mod Examples
+pub mod examples
+pub mod internal

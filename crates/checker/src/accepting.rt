@@ -4,14 +4,14 @@ ghost use Prim.Native.Nat.{_+_, _≤_};
 ghost use lib.ListN.{length, take, drop};
 ghost use Rattle.model.specs.Limits.{mostJobs};
 ghost use Rattle.model.specs.Exploration.{accepted};
-ghost use Rattle.jobs.specs.Rows.{jobsOf, Rows};
+ghost use Rattle.jobs.specs.internal.JobRow.{jobsOfRows, Rows};
 ghost use Rattle.steps.specs.internal.Observed.{observedOf};
 ghost use Rattle.checker.specs.Checking.{perJob, resultOf};
-ghost use Rattle.checker.specs.Finished.{Released, responseOf, Finished};
-use crate::Answer;
-use crate::Checked;
-use jobs::MOST_JOBS;
+ghost use Rattle.checker.specs.internal.Finishes.{Released, responseOf, FinishesObserved};
+use crate::result::Answer;
+use crate::result::Checked;
 use jobs::earliest_release;
+use model::limits::MOST_JOBS;
 use words::copy;
 
 // The finish times of all jobs that begin at a word.
@@ -41,8 +41,8 @@ fn responses(rows: &[u32], k: usize, finishes: &[u32; MOST_JOBS]) -> [u32; MOST_
 
 // From the rows of k jobs and the words of their observed finish ranges.
 pub fn accepting(rows: &[u32], k: usize, seen: &[u32], states: u64) -> Checked
-    requires { ⌜ Finished (now rows) k (now seen) ⌝ }
-    ensures { λ r. ⌜ r ≡ resultOf (jobsOf (now (rows .entry)) k) (accepted (observedOf k (now (seen .entry))) states) ⌝ }
+    requires { ⌜ FinishesObserved (now rows) k (now seen) ⌝ }
+    ensures { λ r. ⌜ r ≡ resultOf (jobsOfRows (now (rows .entry)) k) (accepted (observedOf k (now (seen .entry))) states) ⌝ }
 {
     let earliest = finish_times(seen, 0);
     let latest = finish_times(seen, MOST_JOBS);

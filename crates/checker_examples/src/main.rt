@@ -3,27 +3,15 @@
 // something before, are unchanged.
 use checker::check;
 use libc::STDIN_FILENO;
-use printing::print;
+use phrase::TABLE_WORDS;
+use printing::NextExample;
+use printing::all_are;
+use printing::next_example;
+use printing::print_rest;
 use printing::show_result;
-use printing::two_bytes;
 
-const TABLE_WORDS: usize = 16384;
 // What every word of the table holds before a check: no time, and no count of states.
 const BEFORE: u32 = 2779096485;
-// The bytes before a file.
-const HEAD: usize = 6;
-
-fn show_rest(table: &[u32], used: usize) {
-    let mut i = used;
-    while i < table.len() {
-        if table[i] != BEFORE {
-            print(b"rest changed\n");
-            return;
-        }
-        i += 1;
-    }
-    print(b"rest unchanged\n");
-}
 
 // Checks the file over the first words of the table.
 fn show_over(file: &[u8], table: &mut [u32], words: usize, used: usize) {
@@ -32,7 +20,7 @@ fn show_over(file: &[u8], table: &mut [u32], words: usize, used: usize) {
     }
     let checked = check(file, &mut table[0..words]);
     show_result(checked);
-    show_rest(table, used);
+    print_rest(all_are(table, used, BEFORE));
 }
 
 fn show(file: &[u8], words: usize, used: usize) {
@@ -42,16 +30,14 @@ fn show(file: &[u8], words: usize, used: usize) {
 
 fn show_all(input: &[u8]) {
     let mut at = 0;
-    while HEAD <= input.len() - at {
-        let words = two_bytes(input, at);
-        let used = two_bytes(input, at + 2);
-        let size = two_bytes(input, at + 4);
-        let start = at + HEAD;
-        if input.len() - start < size {
+    loop {
+        let next = next_example(input, at);
+        let NextExample::Found(example) = next else {
             return;
-        }
-        let end = start + size;
-        show(&input[start..end], words, used);
+        };
+        let start = example.start;
+        let end = example.end;
+        show(&input[start..end], example.first, example.second);
         at = end;
     }
 }

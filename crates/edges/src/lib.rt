@@ -11,7 +11,7 @@ ghost use Rattle.model.specs.Jobs.{Job, job, predecessors, before};
 ghost use Rattle.model.specs.States.{latest, finishOf};
 ghost use Rattle.model.specs.Edges.{candidate, possiblyReady, certainlyReady, earliestStart, workConservingBound, certainlyReadyBeside, higherPriorityBound};
 ghost use Rattle.model.specs.Exploration.{stateWords};
-ghost use Rattle.jobs.specs.Rows.{jobsOf, Rows};
+ghost use Rattle.jobs.specs.internal.JobRow.{jobsOfRows, Rows};
 ghost use Rattle.states.specs.internal.Slots.{inSet, stateOf};
 ghost use Rattle.edges.specs.internal.Edges.{Readable, PredecessorSet, PredecessorSets, candidates, Prepared, limitWord, firstCertainlyReady, edgeOf};
 use jobs::earliest_release;
@@ -39,7 +39,7 @@ pub enum Edge {
 // The predecessors of job i: bit w for job w.
 fn predecessor_set(rows: &[u32], k: usize, i: usize) -> u64
     requires { ⌜ (i < k) × (k ≤ mostJobs) × Rows (now rows) k ⌝ }
-    ensures { λ r. ⌜ PredecessorSet (jobsOf (now (rows .entry)) k) i r ⌝ }
+    ensures { λ r. ⌜ PredecessorSet (jobsOfRows (now (rows .entry)) k) i r ⌝ }
 {
     let n = predecessor_count(rows, k, i);
     let mut set = 0;
@@ -54,7 +54,7 @@ fn predecessor_set(rows: &[u32], k: usize, i: usize) -> u64
 // Writes for each job the set of its predecessors. This is done once for all states.
 pub fn write_predecessor_sets(rows: &[u32], k: usize, sets: &mut [u64])
     requires { ⌜ Rows (now rows) k × (k ≤ mostJobs) × (k ≤ length (now sets)) ⌝ }
-    ensures { λ _. ⌜ PredecessorSets (jobsOf (now (rows .entry)) k) k (now (sets .exit)) ⌝ }
+    ensures { λ _. ⌜ PredecessorSets (jobsOfRows (now (rows .entry)) k) k (now (sets .exit)) ⌝ }
 {
     let mut i = 0;
     while i < k {
@@ -91,7 +91,7 @@ pub fn list_candidates(sets: &[u64], k: usize, s: &[u32], m: usize, list: &mut [
 
 fn possibly_ready(rows: &[u32], k: usize, s: &[u32], m: usize, i: usize) -> u32
     requires { ⌜ (i < k) × Readable (now rows) k (now s) m ⌝ }
-    ensures { λ r. ⌜ r ≡ possiblyReady (jobsOf (now (rows .entry)) k) (stateOf m k (now (s .entry))) i ⌝ }
+    ensures { λ r. ⌜ r ≡ possiblyReady (jobsOfRows (now (rows .entry)) k) (stateOf m k (now (s .entry))) i ⌝ }
 {
     let n = predecessor_count(rows, k, i);
     let mut ready = earliest_release(rows, k, i);
@@ -105,7 +105,7 @@ fn possibly_ready(rows: &[u32], k: usize, s: &[u32], m: usize, i: usize) -> u32
 
 fn certainly_ready(rows: &[u32], k: usize, s: &[u32], m: usize, i: usize) -> u32
     requires { ⌜ (i < k) × Readable (now rows) k (now s) m ⌝ }
-    ensures { λ r. ⌜ r ≡ certainlyReady (jobsOf (now (rows .entry)) k) (stateOf m k (now (s .entry))) i ⌝ }
+    ensures { λ r. ⌜ r ≡ certainlyReady (jobsOfRows (now (rows .entry)) k) (stateOf m k (now (s .entry))) i ⌝ }
 {
     let n = predecessor_count(rows, k, i);
     let mut ready = latest_release(rows, k, i);
@@ -120,7 +120,7 @@ fn certainly_ready(rows: &[u32], k: usize, s: &[u32], m: usize, i: usize) -> u32
 // The latest finish of job w, if it is no predecessor of job i; those have finished once i is ready.
 fn latest_finish_beside(rows: &[u32], k: usize, s: &[u32], m: usize, i: usize, w: usize) -> u32
     requires { ⌜ (i < k) × (w < k) × Readable (now rows) k (now s) m ⌝ }
-    ensures { λ r. ⌜ r ≡ cond (not (member w (predecessors (jobsOf (now (rows .entry)) k) i)))
+    ensures { λ r. ⌜ r ≡ cond (not (member w (predecessors (jobsOfRows (now (rows .entry)) k) i)))
         (latest (finishOf (stateOf m k (now (s .entry))) w)) 0 ⌝ }
 {
     if is_predecessor(rows, k, i, w) {
@@ -131,7 +131,7 @@ fn latest_finish_beside(rows: &[u32], k: usize, s: &[u32], m: usize, i: usize, w
 
 fn certainly_ready_beside(rows: &[u32], k: usize, s: &[u32], m: usize, i: usize, j: usize) -> u32
     requires { ⌜ (i < k) × (j < k) × Readable (now rows) k (now s) m ⌝ }
-    ensures { λ r. ⌜ r ≡ certainlyReadyBeside (jobsOf (now (rows .entry)) k) (stateOf m k (now (s .entry))) i j ⌝ }
+    ensures { λ r. ⌜ r ≡ certainlyReadyBeside (jobsOfRows (now (rows .entry)) k) (stateOf m k (now (s .entry))) i j ⌝ }
 {
     let n = predecessor_count(rows, k, j);
     let mut ready = latest_release(rows, k, j);
@@ -149,7 +149,7 @@ fn certainly_ready_beside(rows: &[u32], k: usize, s: &[u32], m: usize, i: usize,
 // From when on some candidate is certainly ready.
 fn first_certainly_ready(rows: &[u32], k: usize, s: &[u32], m: usize, list: &[u32]) -> u32
     requires { ⌜ Prepared (now rows) k (now s) m (now list) ⌝ }
-    ensures { λ r. ⌜ r ≡ limitWord (firstCertainlyReady (jobsOf (now (rows .entry)) k) (stateOf m k (now (s .entry)))) ⌝ }
+    ensures { λ r. ⌜ r ≡ limitWord (firstCertainlyReady (jobsOfRows (now (rows .entry)) k) (stateOf m k (now (s .entry)))) ⌝ }
 {
     let mut first = NO_LIMIT;
     let mut t = 0;
@@ -162,7 +162,7 @@ fn first_certainly_ready(rows: &[u32], k: usize, s: &[u32], m: usize, list: &[u3
 
 pub fn work_conserving_bound(rows: &[u32], k: usize, s: &[u32], m: usize, list: &[u32]) -> u32
     requires { ⌜ Prepared (now rows) k (now s) m (now list) ⌝ }
-    ensures { λ r. ⌜ r ≡ workConservingBound (jobsOf (now (rows .entry)) k) (stateOf m k (now (s .entry))) ⌝ }
+    ensures { λ r. ⌜ r ≡ workConservingBound (jobsOfRows (now (rows .entry)) k) (stateOf m k (now (s .entry))) ⌝ }
 {
     let first = first_certainly_ready(rows, k, s, m, list);
     let free = s[SET_WORDS + m];
@@ -175,7 +175,7 @@ pub fn work_conserving_bound(rows: &[u32], k: usize, s: &[u32], m: usize, list: 
 // Whether job j goes before job i and may be ready before `first`: not before its latest release.
 fn may_lower(rows: &[u32], k: usize, i: usize, j: usize, first: u32) -> bool
     requires { ⌜ (i < k) × (j < k) × Rows (now rows) k ⌝ }
-    ensures { λ r. ⌜ r ≡ (ltb (job (jobsOf (now (rows .entry)) k) j .latestRelease) first && before (jobsOf (now (rows .entry)) k) j i) ⌝ }
+    ensures { λ r. ⌜ r ≡ (ltb (job (jobsOfRows (now (rows .entry)) k) j .latestRelease) first && before (jobsOfRows (now (rows .entry)) k) j i) ⌝ }
 {
     if first <= latest_release(rows, k, j) {
         return false;
@@ -195,7 +195,7 @@ fn higher_priority_bound(
 ) -> u32
     requires { ⌜ (i < k) × Prepared (now rows) k (now s) m (now list) × (start ≤ latestTime) ⌝ }
     ensures { λ r. ⌜ max start r
-        ≡ max start (limitWord (higherPriorityBound (jobsOf (now (rows .entry)) k) (stateOf m k (now (s .entry))) i)) ⌝ }
+        ≡ max start (limitWord (higherPriorityBound (jobsOfRows (now (rows .entry)) k) (stateOf m k (now (s .entry))) i)) ⌝ }
 {
     let mut first = NO_LIMIT;
     let mut t = 0;
@@ -214,7 +214,7 @@ fn higher_priority_bound(
 
 fn earliest_start(rows: &[u32], k: usize, s: &[u32], m: usize, i: usize) -> u32
     requires { ⌜ (i < k) × Readable (now rows) k (now s) m ⌝ }
-    ensures { λ r. ⌜ r ≡ earliestStart (jobsOf (now (rows .entry)) k) (stateOf m k (now (s .entry))) i ⌝ }
+    ensures { λ r. ⌜ r ≡ earliestStart (jobsOfRows (now (rows .entry)) k) (stateOf m k (now (s .entry))) i ⌝ }
 {
     larger(s[SET_WORDS], possibly_ready(rows, k, s, m, i))
 }
@@ -229,9 +229,9 @@ pub fn edge_of(
     bound: u32,
     i: usize,
 ) -> Edge
-    requires { ⌜ (i < k) × Prepared (now rows) k (now s) m (now list) × (candidate (jobsOf (now rows) k) (stateOf m k (now s)) i ≡ true)
-        × (bound ≡ workConservingBound (jobsOf (now rows) k) (stateOf m k (now s))) ⌝ }
-    ensures { λ r. ⌜ r ≡ edgeOf (jobsOf (now (rows .entry)) k) (stateOf m k (now (s .entry))) i ⌝ }
+    requires { ⌜ (i < k) × Prepared (now rows) k (now s) m (now list) × (candidate (jobsOfRows (now rows) k) (stateOf m k (now s)) i ≡ true)
+        × (bound ≡ workConservingBound (jobsOfRows (now rows) k) (stateOf m k (now s))) ⌝ }
+    ensures { λ r. ⌜ r ≡ edgeOf (jobsOfRows (now (rows .entry)) k) (stateOf m k (now (s .entry))) i ⌝ }
 {
     let start = earliest_start(rows, k, s, m, i);
     if bound < start {

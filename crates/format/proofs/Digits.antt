@@ -1,69 +1,92 @@
--- A number written in bytes is read back, and bytes read as a number are written back. Assumes nothing.
-use Prim.Native.Nat.{ℕ, zero, suc, _+_, _*_, _/_, _%_, _≤_, _<_}
-use mathlib.Core.Path.{_≡_, ap, _∙_}
-use mathlib.Core.List.{List, [], _∷_, _++_}
-use native.Mathlib.Numerals.{towards-suc}
+-- A number written in bytes is read back, and bytes read as a number are written back, for any width. Assumes nothing.
+use Prim.Native.Nat.{ℕ, zero, suc, _+_, _*_, _/_, _%_, _^_, _≤_, _<_}
+use mathlib.Core.Path.{_≡_, refl, sym, ap, _∙_}
+use mathlib.Core.List.{List, [], _∷_, _++_, append-assoc}
+use native.Mathlib.Nat.{pow-suc, add-zero}
 use native.Mathlib.Omega.{arith}
-use lib.ListN.{length, drop}
-use lib.Seq.{drop-cons}
-use Rattle.format.specs.Bytes.{byteAt, be16, be32}
-use Rattle.format.specs.Valid.{IsByte, AreBytes}
-use Rattle.format.specs.Writing.{digits}
+use lib.ListN.{length, take, drop, length-append, length-drop}
+use lib.Seq.{take-suc, getD-drop, getD-at, getD-append-add}
+use Rattle.format.specs.Bytes.{byteAt, AreBytes, number, digits}
 
-pub be16-digits : (x : ℕ) → x < 65536 → (p : List ℕ) → be16 (digits 2 x ++ p) 0 ≡ x
-unfolding be16 digits
-be16-digits x h p = omega arith
-
-pub be32-digits : (x : ℕ) → x < 4294967296 → (p : List ℕ) → be32 (digits 4 x ++ p) 0 ≡ x
-unfolding be32 digits
-be32-digits x h p = omega arith
-
--- ---- the bytes of a list, one by one
-
--- the n bytes from place i on
-abbrev pub spelled : ℕ → ℕ → List ℕ → List ℕ
-spelled i zero p = []
-spelled i (suc n) p = byteAt p i ∷ spelled (suc i) n p
-
-pub spelled-from : (i n : ℕ) (p : List ℕ) → i + n ≤ length p → drop i p ≡ spelled i n p ++ drop (i + n) p
-spelled-from i zero p h = let k : i ≡ i + zero = omega arith in ap (λ (k : ℕ). drop k p) k
-spelled-from i (suc n) p h =
-    let k : suc i + n ≡ i + suc n = omega arith in
-    let rest = spelled-from (suc i) n p (omega arith) in
-    drop-cons p i 0 (omega arith) ∙ ap (λ (r : List ℕ). byteAt p i ∷ r) (rest ∙ ap (λ (k : ℕ). spelled (suc i) n p ++ drop k p) k)
-
-two : (a b : ℕ) → IsByte a → IsByte b → digits 2 (a * 256 + b) ≡ a ∷ b ∷ []
+-- A number is written in as many bytes as its width says.
+pub digits-length : (w x : ℕ) → length (digits w x) ≡ w
 unfolding digits
-two a b ha hb =
-    let p : (a * 256 + b) / 256 % 256 ≡ a = omega arith in
-    let q : (a * 256 + b) % 256 ≡ b = omega arith in
-    λ i. p i ∷ q i ∷ []
+digits-length zero x = refl
+digits-length (suc w) x = omega (arith, length-append (digits w (x / 256)) (x % 256 ∷ []), digits-length w (x / 256))
 
-four : (a b c d : ℕ) → IsByte a → IsByte b → IsByte c → IsByte d → digits 4 ((a * 256 + b) * 65536 + (c * 256 + d)) ≡ a ∷ b ∷ c ∷ d ∷ []
-unfolding digits
-four a b c d ha hb hc hd =
-    let x : ℕ = (a * 256 + b) * 65536 + (c * 256 + d) in
-    let p : x / 256 / 256 / 256 % 256 ≡ a = omega arith in
-    let q : x / 256 / 256 % 256 ≡ b = omega arith in
-    let r : x / 256 % 256 ≡ c = omega arith in
-    let t : x % 256 ≡ d = omega arith in
-    λ i. p i ∷ q i ∷ r i ∷ t i ∷ []
+-- An element of a list of bytes is below 256, beyond its end too.
+pub byte-small : (s : List ℕ) → AreBytes s → (i : ℕ) → byteAt s i < 256
+byte-small [] bytes i = omega arith
+byte-small (a ∷ s) bytes zero = bytes 0 (omega arith)
+byte-small (a ∷ s) bytes (suc i) = byte-small s (λ j h. bytes (suc j) (omega arith)) i
 
-module _ (p : List ℕ) (bytes : AreBytes p) (i : ℕ) where
-  pub digits-be16 : i + 2 ≤ length p → digits 2 (be16 p i) ≡ spelled i 2 p
-  unfolding be16
-  digits-be16 l = simp towards-suc (two (byteAt p i) (byteAt p (suc i)) (bytes i (omega arith)) (bytes (suc i) (omega arith)))
+-- A number read from bytes fits its width.
+pub number-small : (w at : ℕ) (s : List ℕ) → AreBytes s → number w at s < 256 ^ w
+unfolding number
+number-small zero at s bytes = omega arith
+number-small (suc w) at s bytes =
+    omega (arith, number-small w at s bytes, byte-small s bytes (at + w), pow-suc 256 w)
 
-  pub digits-be32 : i + 4 ≤ length p → digits 4 (be32 p i) ≡ spelled i 4 p
-  unfolding be32
-  digits-be32 l =
-      simp towards-suc
-      (four
-      (byteAt p i)
-      (byteAt p (suc i))
-      (byteAt p (suc (suc i)))
-      (byteAt p (suc (suc (suc i))))
-      (bytes i (omega arith))
-      (bytes (suc i) (omega arith))
-      (bytes (suc (suc i)) (omega arith))
-      (bytes (suc (suc (suc i))) (omega arith)))
+-- A number that fits its width is read back where it was written.
+pub number-digits : (w x : ℕ) → x < 256 ^ w → (before more : List ℕ) (at : ℕ) → length before ≡ at
+    → number w at (before ++ (digits w x ++ more)) ≡ x
+unfolding number digits
+number-digits zero x h before more at l = omega arith
+number-digits (suc w) x h before more at l =
+    let y : ℕ = x / 256 in
+    let s : List ℕ = before ++ (digits w y ++ (x % 256 ∷ more)) in
+    let split : before ++ (digits w y ++ x % 256 ∷ [] ++ more) ≡ s = ap (λ (r : List ℕ). before ++ r) (append-assoc (digits w y) (x % 256 ∷ []) more) in
+    let small : y < 256 ^ w = omega (arith, pow-suc 256 w) in
+    let high : number w at s ≡ y = number-digits w y small before (x % 256 ∷ more) at l in
+    let low : byteAt s (at + w) ≡ x % 256 =
+    ap (λ (k : ℕ). byteAt s (k + w)) (sym l)
+    ∙ getD-append-add before (digits w y ++ (x % 256 ∷ more)) w 0
+    ∙ getD-at (digits w y) (x % 256) more 0 w (digits-length w y) in
+    let sum : number w at s * 256 + byteAt s (at + w) ≡ x = omega (arith, high, low) in
+    ap (λ (t : List ℕ). number w at t * 256 + byteAt t (at + w)) split ∙ sum
+
+-- Bytes that are read as a number are written back.
+pub digits-number : (s : List ℕ) → AreBytes s → (w at : ℕ) → at + w ≤ length s → digits w (number w at s) ≡ take w (drop at s)
+unfolding number digits
+digits-number s bytes zero at h = refl
+digits-number s bytes (suc w) at h =
+    let b : ℕ = byteAt s (at + w) in
+    let small : b < 256 = byte-small s bytes (at + w) in
+    let high : (number w at s * 256 + b) / 256 ≡ number w at s = omega arith in
+    let low : (number w at s * 256 + b) % 256 ≡ b = omega arith in
+    let here : b ≡ byteAt (drop at s) w = sym (getD-drop at s w 0) in
+    (λ i. digits w (high i) ++ (low ∙ here) i ∷ [])
+    ∙ ap (λ (r : List ℕ). r ++ byteAt (drop at s) w ∷ []) (digits-number s bytes w at (omega arith))
+    ∙ sym (take-suc (drop at s) w 0 (omega (arith, length-drop at s)))
+
+-- A number at a place begins the part of the list from there.
+pub number-drop : (w at : ℕ) (s : List ℕ) → number w 0 (drop at s) ≡ number w at s
+unfolding number
+number-drop zero at s = refl
+number-drop (suc w) at s =
+    let k : 0 + w ≡ w = omega arith in
+    let low : byteAt (drop at s) (0 + w) ≡ byteAt s (at + w) = ap (byteAt (drop at s)) k ∙ getD-drop at s w 0 in
+    λ i. number-drop w at s i * 256 + low i
+
+-- A number of one byte is that byte.
+pub number-one : (at : ℕ) (s : List ℕ) → number 1 at s ≡ byteAt s at
+unfolding number
+number-one at s =
+    let k : byteAt s (at + 0) ≡ byteAt s at = ap (byteAt s) (add-zero at) in
+    omega (arith, k)
+
+-- A number of two bytes, by its bytes.
+pub number-two : (at : ℕ) (s : List ℕ) → number 2 at s ≡ byteAt s at * 256 + byteAt s (at + 1)
+unfolding number
+number-two at s =
+    let k : byteAt s (at + 0) ≡ byteAt s at = ap (byteAt s) (add-zero at) in
+    omega (arith, k)
+
+-- A number of four bytes, by its halves.
+pub number-four : (at : ℕ) (s : List ℕ) → number 4 at s ≡ number 2 at s * 65536 + number 2 (at + 2) s
+unfolding number
+number-four at s =
+    let p : byteAt s (at + 2 + 0) ≡ byteAt s (at + 2) = ap (byteAt s) (add-zero (at + 2)) in
+    let k : at + 2 + 1 ≡ at + 3 = omega arith in
+    let q : byteAt s (at + 2 + 1) ≡ byteAt s (at + 3) = ap (byteAt s) k in
+    omega (arith, p, q)

@@ -1,93 +1,116 @@
--- What is known of a record that is read without a refusal. Assumes nothing.
-use Prim.Native.Nat.{ℕ, _+_, _-_, _≤_, _<_}
-use mathlib.Core.Path.{_≡_, sym, ap, _∙_, subst}
-use mathlib.Core.List.{List, [], _∷_, _++_, append-assoc}
-use mathlib.Core.Option.{some}
+-- A record that is read is the file of what was read, and its fields fit. Assumes nothing.
+use Prim.Native.Nat.{ℕ, _+_, _≤_, _<_}
+use mathlib.Core.Path.{_≡_, refl, sym, ap, _∙_, subst}
+use mathlib.Core.Bool.{true}
+use mathlib.Core.List.{List, _∷_, _++_}
 use native.Mathlib.Omega.{arith}
 use lib.Dec.{leb, ltb}
-use lib.ListN.{length, drop, length-take, length-drop, take-append-drop}
-use lib.Seq.{drop-drop}
+use lib.ListN.{length, take, drop, length-drop, length-replicate, take-append-drop}
 use borrow.Author.Tests.{leb-true, ltb-true}
-use Rattle.format.specs.Bytes.{byteAt, be32, within}
-use Rattle.format.specs.Phrase.{Bell, sounding, Note}
-use Rattle.format.specs.Reading.{bellBytes, noteBytes, mostListed, ok, isNone, bellIn, bellInRange, find, bellRecord, areTimes, rises, listedIn, noteIn, noteRecord}
-use Rattle.format.specs.Valid.{AreBytes, ValidBell, ValidNote}
-use Rattle.format.specs.Writing.{bellFile, noteFile}
-use Rattle.format.proofs.Passed.{within-true, is-none, required, found}
-use Rattle.format.proofs.Digits.{spelled, spelled-from, digits-be16, digits-be32}
+use Rattle.model.specs.Refusals.{wrongEnd, wrongBell, doubledKey, wrongNoteLength, silentKey, wrongTimes, wrongListed}
+use Rattle.format.specs.Bytes.{AreBytes, number, total, fieldsIn, fieldsFile}
+use Rattle.format.specs.Layout.{Layout, bellBytes, noteLength, isNoteLength, bellWidths, noteWidths}
+use Rattle.format.specs.Outcome.{ok}
+use Rattle.format.specs.Phrase.{Bell, Note, sounding, find, isNone, isSome}
+use Rattle.format.specs.Rules.{bellInRange, bellRules, areTimes, rises, noteRules}
+use Rattle.format.specs.Reading.{bellIn, bellRecord, listedBy, noteIn, noteRecord}
+use Rattle.format.specs.Writing.{bellFields, bellFile, noteFile}
+use Rattle.format.specs.internal.Fits.{FieldsFit}
+use Rattle.format.proofs.Passed.{required}
+use Rattle.format.proofs.Fields.{fields-fit, fields-file, fields-count}
+use Rattle.format.proofs.Layouts.{bell-total, note-total, length-is}
+use Rattle.format.proofs.Records.{BellFits, NoteFits, bell-fields}
 
--- A bell record that is read holds a bell that the rules allow, and is that bell's record.
-pub record BellGiven (before : List Bell) (p : List ℕ) (b : Bell) : Type 0 where
-  pub valid : ValidBell before b
-  pub file : p ≡ bellFile b ++ drop bellBytes p
+-- the first fields of a list of bytes are the list as far as they reach
+opened : (p : List ℕ) → AreBytes p → (ws vs : List ℕ) (n : ℕ) → total ws ≡ n → vs ≡ fieldsIn ws 0 p → n ≤ length p → p ≡ fieldsFile ws vs ++ drop n p
+opened p bytes ws vs n t e h =
+    sym (take-append-drop n p)
+    ∙ ap (λ (k : ℕ). take k p ++ drop n p) (sym t)
+    ∙ ap (λ (r : List ℕ). r ++ drop n p) (sym (fields-file p bytes ws 0 (omega arith)))
+    ∙ ap (λ (v : List ℕ). fieldsFile ws v ++ drop n p) (sym e)
 
-bell-spelled : (p : List ℕ) → AreBytes p → bellBytes ≤ length p → bellFile (bellIn p) ≡ spelled 0 bellBytes p
-unfolding bellFile bellIn
-bell-spelled p bytes l =
-    let ca = digits-be16 p bytes 2 (omega arith) in
-    let cb = digits-be16 p bytes 4 (omega arith) in
-    λ i. byteAt p 0 ∷ byteAt p 1 ∷ ca i ++ cb i ++ byteAt p 6 ∷ []
+-- A bell that the rules let pass keeps to them, and is the one that they were asked.
+pub bell-passed : (before : List Bell) (at : ℕ) (a b : Bell) → bellRules before at a ≡ ok b
+    → (bellInRange a ≡ true) × (isNone (find (sounding a) before) ≡ true) × (a ≡ b)
+unfolding bellRules
+bell-passed before at a b e =
+    let range = required (bellInRange a) wrongBell at e in
+    let alone = required (isNone (find (sounding a) before)) doubledKey at (range .1) in
+    (range .0, alone .0, cc (alone .1))
 
-pub bell-given : (before : List Bell) (at : ℕ) (p : List ℕ) (b : Bell) → AreBytes p → bellRecord before at p ≡ ok b → BellGiven before p b
-unfolding bellRecord
-bell-given before at p b bytes e =
-    let long = required (leb bellBytes (length p)) 3 at e in
-    let range = required (bellInRange (bellIn p)) 6 at (long .1) in
-    let alone = required (isNone (find (sounding (bellIn p)) before)) 7 at (range .1) in
-    let same : bellIn p ≡ b = cc (alone .1) in
-    let l = leb-true bellBytes (length p) (long .0) in
-    subst (BellGiven before p) same record {
-      valid = record { inRange = range .0; transposition = bytes 1 (omega arith); priority = bytes 6 (omega arith); alone = is-none _ (alone .0) };
-      file = spelled-from 0 bellBytes p l ∙ ap (λ (f : List ℕ). f ++ drop bellBytes p) (sym (bell-spelled p bytes l));
+-- A note that the rules let pass keeps to them, and is the one that they were asked.
+pub note-passed : (bells : List Bell) (own at : ℕ) (a b : Note) → noteRules bells own at a ≡ ok b
+    → (isSome (find (a .key) bells) ≡ true) × (areTimes (a .earliestRelease) (a .latestRelease) (a .deadline) ≡ true) × (rises own 0 (a .listed) ≡ true) × (a ≡ b)
+unfolding noteRules
+note-passed bells own at a b e =
+    let sounds = required (isSome (find (a .key) bells)) silentKey at e in
+    let times = required (areTimes (a .earliestRelease) (a .latestRelease) (a .deadline)) wrongTimes at (sounds .1) in
+    let rise = required (rises own 0 (a .listed)) wrongListed at (times .1) in
+    (sounds .0, times .0, rise .0, cc (rise .1))
+
+-- A bell that is read: its fields fit, and its file opens the bytes.
+pub record BellGiven (l : Layout) (p : List ℕ) (b : Bell) : Type 0 where
+  pub fits : BellFits l b
+  pub file : p ≡ bellFile l b ++ drop (bellBytes l) p
+
+-- A bell that is read from bytes is given by them.
+pub bell-given : (l : Layout) (before : List Bell) (at : ℕ) (p : List ℕ) (b : Bell) → AreBytes p → bellRecord l before at p ≡ ok b → BellGiven l p b
+unfolding bellRecord bellFile
+bell-given l before at p b bytes e =
+    let long = required (leb (bellBytes l) (length p)) wrongEnd at e in
+    let same : bellIn l p ≡ b = bell-passed before at (bellIn l p) b (long .1) .2 in
+    let enough = leb-true (bellBytes l) (length p) (long .0) in
+    subst (BellGiven l p) same record {
+      fits = subst (FieldsFit (bellWidths l)) (sym (bell-fields l p)) (fields-fit p bytes (bellWidths l) 0);
+      file = opened p bytes (bellWidths l) (bellFields (bellIn l p)) (bellBytes l) (bell-total l) (bell-fields l p) enough;
     }
 
--- A note record that is read holds a note that the rules allow, and is that note's record.
-pub record NoteGiven (bells : List Bell) (before : List Note) (p : List ℕ) (n : Note) : Type 0 where
-  pub valid : ValidNote bells before n
-  pub file : p ≡ noteFile n ++ drop (1 + byteAt p 0) p
+-- A note that is read: its fields fit, and its file opens the bytes.
+pub record NoteGiven (l : Layout) (p : List ℕ) (n : Note) : Type 0 where
+  pub fits : NoteFits l n
+  pub file : p ≡ noteFile l n ++ drop (1 + number 1 0 p) p
 
-module _ (p : List ℕ) (bytes : AreBytes p) (low : noteBytes ≤ byteAt p 0) (long : byteAt p 0 < length p) where
-  listed-length : noteBytes + length (listedIn p) ≡ byteAt p 0
-  unfolding listedIn
-  listed-length = simp (length-take, length-drop) (omega arith)
+-- the fields after the length
+abbrev later : Layout → List ℕ → List ℕ
+later l p = drop 1 (fieldsIn (noteWidths l (listedBy l p)) 0 p)
 
-  note-spelled : (bell : ℕ) → noteFile (noteIn p bell) ≡ spelled 0 (1 + noteBytes) p ++ listedIn p
-  unfolding noteFile noteIn
-  note-spelled bell =
-      let ra = digits-be32 p bytes 2 (omega arith) in
-      let rb = digits-be32 p bytes 6 (omega arith) in
-      let d = digits-be32 p bytes 10 (omega arith) in
-      λ i. listed-length i ∷ byteAt p 1 ∷ ra i ++ rb i ++ d i ++ listedIn p
+module _ (l : Layout) (p : List ℕ) where
+  listed-length : length (noteIn l p .listed) ≡ listedBy l p
+  unfolding noteIn
+  listed-length =
+      let ws : List ℕ = noteWidths l (listedBy l p) in
+      omega (arith, length-drop 5 (fieldsIn ws 0 p), fields-count ws 0 p, length-replicate (listedBy l p) (l .listedBytes))
 
-  tail : drop (1 + noteBytes) p ≡ listedIn p ++ drop (1 + byteAt p 0) p
-  unfolding listedIn
-  tail =
-      let k : 1 + noteBytes + (byteAt p 0 - noteBytes) ≡ 1 + byteAt p 0 = omega arith in
-      let after = drop-drop (byteAt p 0 - noteBytes) (1 + noteBytes) p ∙ ap (λ (k : ℕ). drop k p) k in
-      sym (take-append-drop (byteAt p 0 - noteBytes) (drop (1 + noteBytes) p)) ∙ ap (λ (r : List ℕ). listedIn p ++ r) after
+  fields-are : number 1 0 p ∷ later l p ≡ fieldsIn (noteWidths l (listedBy l p)) 0 p
+  unfolding fieldsIn
+  fields-are = refl
 
-  note-whole : (bell : ℕ) → p ≡ noteFile (noteIn p bell) ++ drop (1 + byteAt p 0) p
-  note-whole bell =
-      let head : List ℕ = spelled 0 (1 + noteBytes) p in
-      spelled-from 0 (1 + noteBytes) p (omega arith)
-      ∙ ap (λ (r : List ℕ). head ++ r) tail
-      ∙ sym (append-assoc head (listedIn p) _)
-      ∙ ap (λ (f : List ℕ). f ++ drop (1 + byteAt p 0) p) (sym (note-spelled bell))
+  module _ (bytes : AreBytes p) (size : noteLength l (listedBy l p) ≡ number 1 0 p) where
+    note-fits : NoteFits l (noteIn l p)
+    unfolding noteIn fieldsIn
+    note-fits =
+        let first = subst (FieldsFit (noteWidths l (listedBy l p))) (sym fields-are) (fields-fit p bytes (noteWidths l (listedBy l p)) 0) in
+        subst (λ (k : ℕ). FieldsFit (noteWidths l k) (noteLength l k ∷ later l p)) (sym listed-length)
+        (subst (λ (m : ℕ). FieldsFit (noteWidths l (listedBy l p)) (m ∷ later l p)) (sym size) first)
 
-pub note-given : (bells : List Bell) (before : List Note) (at : ℕ) (p : List ℕ) (n : Note) → AreBytes p → noteRecord bells (length before) at p ≡ ok n
-    → NoteGiven bells before p n
+    note-whole : number 1 0 p < length p → p ≡ noteFile l (noteIn l p) ++ drop (1 + number 1 0 p) p
+    unfolding noteFile noteIn fieldsIn
+    note-whole long =
+        let n : ℕ = 1 + number 1 0 p in
+        let k : ℕ = listedBy l p in
+        opened p bytes (noteWidths l k) (number 1 0 p ∷ later l p) n (note-total l k ∙ ap (λ (m : ℕ). 1 + m) size) fields-are (omega arith)
+        ∙ ap (λ (m : ℕ). fieldsFile (noteWidths l k) (m ∷ later l p) ++ drop n p) (sym size)
+        ∙ ap (λ (j : ℕ). fieldsFile (noteWidths l j) (noteLength l j ∷ later l p) ++ drop n p) (sym listed-length)
+
+-- A note that is read from bytes is given by them.
+pub note-given : (l : Layout) (bells : List Bell) (own at : ℕ) (p : List ℕ) (n : Note) → AreBytes p
+    → noteRecord l bells own at p ≡ ok n → NoteGiven l p n
 unfolding noteRecord
-note-given bells before at p n bytes e =
-    let some = required (leb 1 (length p)) 3 at e in
-    let size = required (within noteBytes (noteBytes + mostListed) (byteAt p 0)) 9 at (some .1) in
-    let long = required (ltb (byteAt p 0) (length p)) 3 at (size .1) in
-    let bell = found (find (byteAt p 1) bells) 10 at (long .1) in
-    let time = required (areTimes (be32 p 2) (be32 p 6) (be32 p 10)) 11 at (bell .2) in
-    let rise = required (rises (length before) 0 (listedIn p)) 12 at (time .1) in
-    let same : noteIn p (bell .0) ≡ n = cc (rise .1) in
-    let w = within-true noteBytes (noteBytes + mostListed) (byteAt p 0) (size .0) in
-    let l = ltb-true (byteAt p 0) (length p) (long .0) in
-    subst (NoteGiven bells before p) same record {
-      valid = record { sounds = bell .1; times = time .0; few = omega (arith, listed-length p bytes (w .0) l); rising = rise .0 };
-      file = note-whole p bytes (w .0) l (bell .0);
-    }
+note-given l bells own at p n bytes e =
+    let some = required (leb 1 (length p)) wrongEnd at e in
+    let size = required (isNoteLength l (number 1 0 p)) wrongNoteLength at (some .1) in
+    let long = required (ltb (number 1 0 p) (length p)) wrongEnd at (size .1) in
+    let same : noteIn l p ≡ n = note-passed bells own at (noteIn l p) n (long .1) .3 in
+    let is = length-is l (number 1 0 p) (size .0) in
+    let enough = ltb-true (number 1 0 p) (length p) (long .0) in
+    subst (NoteGiven l p) same record { fits = note-fits l p bytes (is .1); file = note-whole l p bytes (is .1) enough }

@@ -1,19 +1,17 @@
--- Theorems about the definition of reading, and laws that the reader's proofs cite.
+-- Theorems about the definitions.
 pub mod Passed
 pub mod Digits
+pub mod Fields
+pub mod First
+pub mod Layouts
 pub mod Records
+pub mod Written
 pub mod Given
-pub mod Sound
-pub mod RoundTrip
-pub mod ValidLists
-pub mod WrittenBytes
-pub mod Analysable
-pub mod Outcomes
-pub mod Lookup
-pub mod BellRows
-pub mod BellReading
-pub mod Listed
-pub mod JobRows
-pub mod NoteReading
-pub mod FileReading
+pub mod Read
+pub mod Allowed
+pub mod Ranges
+pub mod Theorems
 pub mod Refusals
+pub mod Files
+pub mod Jobs
+pub mod Steps

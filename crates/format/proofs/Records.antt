@@ -1,119 +1,97 @@
--- A record that is written is read back. Assumes nothing.
-use Prim.Native.Nat.{ℕ, _+_, _-_, _≤_, _<_}
-use mathlib.Core.Path.{_≡_, refl, ap, _∙_}
-use mathlib.Core.Bool.{Bool, true, _&&_}
+-- A record whose fields fit, once written, is read by its rules alone. Assumes nothing.
+use Prim.Native.Nat.{ℕ, _+_, _≤_, _<_}
+use mathlib.Core.Path.{_≡_, refl, sym, ap, _∙_}
 use mathlib.Core.List.{List, [], _++_}
 use native.Mathlib.Omega.{arith}
-use lib.Dec.{leb}
-use lib.ListN.{length, length-append}
-use lib.Seq.{take-at}
-use borrow.Author.Tests.{leb-true}
-use Rattle.format.specs.Bytes.{byteAt, within}
-use Rattle.format.specs.Phrase.{Bell, sounding, Note}
-use Rattle.model.specs.Limits.{longestExecution, latestTime}
-use Rattle.format.specs.Reading.{bellBytes, noteBytes, mostListed, lowestKey, highestKey, ok, bellIn, isTransposition, isExecutionRange, bellInRange, find, bellRecord, areTimes, rises, listedIn, noteIn, noteRecord}
-use Rattle.format.specs.Valid.{ValidBell, ValidNote}
-use Rattle.format.specs.Writing.{bellFile, noteFile}
-use Rattle.model.proofs.Booleans.{and-left, and-right}
-use Rattle.format.proofs.Passed.{within-true, true-within}
-use Rattle.format.proofs.Digits.{be16-digits, be32-digits}
-use Rattle.format.proofs.BellReading.{whole}
-use Rattle.format.proofs.NoteReading.{right, there}
+use lib.Dec.{leb, ltb}
+use lib.ListN.{length, getD, length-append}
+use borrow.Author.Tests.{le-leb, lt-ltb}
+use Rattle.model.specs.Refusals.{wrongEnd, wrongNoteLength}
+use Rattle.format.specs.Bytes.{number, fieldsIn}
+use Rattle.format.specs.Layout.{Layout, bellBytes, mostListed, noteLength, listedCount, isNoteLength, bellWidths, noteWidths}
+use Rattle.format.specs.Outcome.{Outcome, _>>_, require}
+use Rattle.format.specs.Phrase.{Bell, Note}
+use Rattle.format.specs.Rules.{bellRules, noteRules}
+use Rattle.format.specs.Reading.{bellOf, bellIn, bellRecord, noteOf, listedBy, noteIn, noteRecord}
+use Rattle.format.specs.Writing.{bellFields, bellFile, noteFields, noteFile}
+use Rattle.format.specs.internal.Fits.{FieldsFit, Sized}
+use Rattle.format.proofs.Passed.{same-require, passed}
+use Rattle.format.proofs.Fields.{fields-length, fields-back}
+use Rattle.format.proofs.Layouts.{bell-total, note-total, listed-count, note-lengths}
 
--- ---- a bell
+-- the fields of a bell fit their widths
+abbrev pub BellFits : Layout → Bell → Type 0
+BellFits l b = FieldsFit (bellWidths l) (bellFields b)
 
-executions : (least most : ℕ) → isExecutionRange least most ≡ true → (1 ≤ least) × (least ≤ most) × (most ≤ longestExecution)
-unfolding isExecutionRange
-executions least most e =
-    let r : leb least most && leb most longestExecution ≡ true = and-right (leb 1 least) _ e in
-    let low = leb-true 1 least (and-left (leb 1 least) _ e) in
-    let order = leb-true least most (and-left (leb least most) _ r) in
-    (low, order, leb-true most longestExecution (and-right (leb least most) _ r))
+-- the fields of a note fit their widths, the length byte too
+abbrev pub NoteFits : Layout → Note → Type 0
+NoteFits l n = FieldsFit (noteWidths l (length (n .listed))) (noteFields l n)
 
--- what a bell in range says of its keys and of its execution times
-pub record BellRanges (b : Bell) : Type 0 where
-  pub written : b .written ≤ highestKey
-  pub sounds : (lowestKey ≤ sounding b) × (sounding b ≤ highestKey)
-  pub execution : (1 ≤ b .leastExecution) × (b .leastExecution ≤ b .mostExecution) × (b .mostExecution ≤ longestExecution)
+module _ (l : Layout) where
+  -- The fields of a bell that is read are those of its record.
+  pub bell-fields : (p : List ℕ) → bellFields (bellIn l p) ≡ fieldsIn (bellWidths l) 0 p
+  unfolding bellIn fieldsIn
+  bell-fields p = refl
 
-pub bell-ranges : (b : Bell) → bellInRange b ≡ true → BellRanges b
-unfolding bellInRange
-bell-ranges b e =
-    let isKey : ℕ → Bool = within lowestKey highestKey in
-    let r = and-right (isTransposition (b .transposition)) _ (and-right (isKey (b .written)) _ e) in
-    let written = within-true lowestKey highestKey (b .written) (and-left (isKey (b .written)) _ e) in
-    let sounds = within-true lowestKey highestKey (sounding b) (and-left (isKey (sounding b)) _ r) in
-    record { written = written .1; sounds = sounds; execution = executions (b .leastExecution) (b .mostExecution) (and-right (isKey (sounding b)) _ r) }
+  module _ (b : Bell) (f : BellFits l b) where
+    -- The record of a bell has the bytes that the layout says.
+    pub bell-length : length (bellFile l b) ≡ bellBytes l
+    unfolding bellFile
+    bell-length = fields-length (bellWidths l) (bellFields b) f ∙ bell-total l
 
-bell-read : (b : Bell) → b .leastExecution < 65536 → b .mostExecution < 65536 → (more : List ℕ) → bellIn (bellFile b ++ more) ≡ b
-unfolding bellIn bellFile
-bell-read b ca cb more =
-    λ i. record {
-      written = b .written;
-      transposition = b .transposition;
-      leastExecution = be16-digits (b .leastExecution) ca [] i;
-      mostExecution = be16-digits (b .mostExecution) cb [] i;
-      priority = b .priority;
-    }
+    bell-same : (more : List ℕ) → bellIn l (bellFile l b ++ more) ≡ b
+    unfolding bellFile bellIn
+    bell-same more = ap bellOf (fields-back (bellWidths l) (bellFields b) f [] more 0 refl)
 
-pub bell-length : (b : Bell) → length (bellFile b) ≡ bellBytes
-unfolding bellFile
-bell-length b = refl
+    -- The record of a bell, once written, is read by its rules alone.
+    pub bell-back : (before : List Bell) (at : ℕ) (more : List ℕ) → bellRecord l before at (bellFile l b ++ more) ≡ bellRules before at b
+    unfolding bellRecord
+    bell-back before at more =
+        let p : List ℕ = bellFile l b ++ more in
+        let long : bellBytes l ≤ length p = omega (arith, bell-length, length-append (bellFile l b) more) in
+        passed (leb (bellBytes l) (length p)) wrongEnd at (bellRules before at (bellIn l p)) (le-leb (bellBytes l) (length p) long)
+        ∙ ap (bellRules before at) (bell-same more)
 
-pub bell-back : (before : List Bell) (b : Bell) → ValidBell before b → (at : ℕ) (more : List ℕ) → bellRecord before at (bellFile b ++ more) ≡ ok b
-bell-back before b v at more =
-    let r = bell-ranges b (v .inRange) in
-    let same : bellIn (bellFile b ++ more) ≡ b = bell-read b (omega arith) (omega arith) more in
-    let long : bellBytes ≤ length (bellFile b ++ more) = omega (arith, bell-length b, length-append (bellFile b) more) in
-    whole before at (bellFile b ++ more) long (ap bellInRange same ∙ v .inRange) (ap (λ (c : Bell). find (sounding c) before) same ∙ v .alone) ∙ ap ok same
+  note-of-fields : (k : ℕ) (p : List ℕ) → listedBy l p ≡ k → noteOf (fieldsIn (noteWidths l k) 0 p) ≡ noteIn l p
+  unfolding noteIn
+  note-of-fields k p e = ap (λ (j : ℕ). noteOf (fieldsIn (noteWidths l j) 0 p)) (sym e)
 
--- ---- a note
+  first-field : (k : ℕ) (p : List ℕ) → getD (fieldsIn (noteWidths l k) 0 p) 0 0 ≡ number 1 0 p
+  unfolding fieldsIn
+  first-field k p = refl
 
-pub times : (ra rb d : ℕ) → areTimes ra rb d ≡ true → (ra ≤ rb) × (rb ≤ latestTime) × (d ≤ latestTime)
-unfolding areTimes
-times ra rb d e =
-    let r : leb rb latestTime && leb d latestTime ≡ true = and-right (leb ra rb) _ e in
-    let order = leb-true ra rb (and-left (leb ra rb) _ e) in
-    (order, leb-true rb latestTime (and-left (leb rb latestTime) _ r), leb-true d latestTime (and-right (leb rb latestTime) _ r))
+  module _ (n : Note) (f : NoteFits l n) where
+    -- The record of a note has its length byte, and the bytes that this counts.
+    pub note-length : length (noteFile l n) ≡ 1 + noteLength l (length (n .listed))
+    unfolding noteFile
+    note-length = fields-length (noteWidths l (length (n .listed))) (noteFields l n) f ∙ note-total l (length (n .listed))
 
-note-read : (n : Note) → n .earliestRelease < 4294967296 → n .latestRelease < 4294967296 → n .deadline < 4294967296 → (more : List ℕ)
-    → noteIn (noteFile n ++ more) (n .bell) ≡ n
-unfolding noteIn noteFile listedIn
-note-read n ra rb d more =
-    λ i. record {
-      key = n .key;
-      bell = n .bell;
-      earliestRelease = be32-digits (n .earliestRelease) ra [] i;
-      latestRelease = be32-digits (n .latestRelease) rb [] i;
-      deadline = be32-digits (n .deadline) d [] i;
-      listed = take-at (n .listed) more (noteBytes + length (n .listed) - noteBytes) (omega arith) i;
-    }
+    module _ (more : List ℕ) where
+      note-fields : fieldsIn (noteWidths l (length (n .listed))) 0 (noteFile l n ++ more) ≡ noteFields l n
+      unfolding noteFile
+      note-fields = fields-back (noteWidths l (length (n .listed))) (noteFields l n) f [] more 0 refl
 
-pub note-length : (n : Note) → length (noteFile n) ≡ 1 + noteBytes + length (n .listed)
-unfolding noteFile
-note-length n = omega arith
+      -- The length byte of a note that is written is read back.
+      pub note-first : number 1 0 (noteFile l n ++ more) ≡ noteLength l (length (n .listed))
+      note-first = sym (first-field (length (n .listed)) (noteFile l n ++ more)) ∙ ap (λ (v : List ℕ). getD v 0 0) note-fields
 
-pub note-first : (n : Note) (more : List ℕ) → byteAt (noteFile n ++ more) 0 ≡ noteBytes + length (n .listed)
-unfolding noteFile
-note-first n more = refl
+      module _ (z : Sized l) where
+        note-same : noteIn l (noteFile l n ++ more) ≡ n
+        note-same =
+            sym (note-of-fields (length (n .listed)) (noteFile l n ++ more) (ap (listedCount l) note-first ∙ listed-count l z (length (n .listed))))
+            ∙ ap noteOf note-fields
 
-note-key : (n : Note) (more : List ℕ) → byteAt (noteFile n ++ more) 1 ≡ n .key
-unfolding noteFile
-note-key n more = refl
-
-pub note-back : (bells : List Bell) (before : List Note) (n : Note) → ValidNote bells before n → (at : ℕ) (more : List ℕ)
-    → noteRecord bells (length before) at (noteFile n ++ more) ≡ ok n
-unfolding noteIn
-note-back bells before n v at more =
-    let p : List ℕ = noteFile n ++ more in
-    let own : ℕ = length before in
-    let t = times (n .earliestRelease) (n .latestRelease) (n .deadline) (v .times) in
-    let same : noteIn p (n .bell) ≡ n = note-read n (omega arith) (omega arith) (omega arith) more in
-    let size : byteAt p 0 ≡ noteBytes + length (n .listed) = note-first n more in
-    let few = v .few in
-    let long : byteAt p 0 < length p = omega (arith, note-length n, length-append (noteFile n) more) in
-    let key = ap (λ (k : ℕ). find k bells) (note-key n more) ∙ v .sounds in
-    let timely = ap (λ (m : Note). areTimes (m .earliestRelease) (m .latestRelease) (m .deadline)) same ∙ v .times in
-    let rise = ap (λ (m : Note). rises own 0 (m .listed)) same ∙ v .rising in
-    let sized = true-within noteBytes (noteBytes + mostListed) (byteAt p 0) (omega arith, omega arith) in
-    there bells own at p (omega arith) sized long ∙ right bells own at p (n .bell) key timely rise ∙ ap ok same
+        -- The record of a note, once written, is read by the count of its numbers and its rules alone.
+        pub note-back : (bells : List Bell) (own at : ℕ)
+            → noteRecord l bells own at (noteFile l n ++ more) ≡ _>>_ (require (leb (length (n .listed)) mostListed) wrongNoteLength at) (noteRules bells own at n)
+        unfolding noteRecord
+        note-back bells own at =
+            let p : List ℕ = noteFile l n ++ more in
+            let some : 1 ≤ length p = omega (arith, note-length, length-append (noteFile l n) more) in
+            let long : number 1 0 p < length p = omega (arith, note-length, note-first, length-append (noteFile l n) more) in
+            let last : Outcome Note = noteRules bells own at (noteIn l p) in
+            let two : Outcome Note = _>>_ (require (ltb (number 1 0 p) (length p)) wrongEnd at) last in
+            passed (leb 1 (length p)) wrongEnd at (_>>_ (require (isNoteLength l (number 1 0 p)) wrongNoteLength at) two) (le-leb 1 (length p) some)
+            ∙ same-require (isNoteLength l (number 1 0 p)) (leb (length (n .listed)) mostListed) wrongNoteLength at two (noteRules bells own at n)
+            (ap (isNoteLength l) note-first ∙ note-lengths l z (length (n .listed)))
+            (passed (ltb (number 1 0 p) (length p)) wrongEnd at last (lt-ltb (number 1 0 p) (length p) long) ∙ ap (noteRules bells own at) note-same)

@@ -1,114 +1,215 @@
--- The numbers and places of reading's refusals: 1 to 12, and no place beyond the longest file of a phrase. Assumes nothing.
+-- The numbers and places of the refusals of reading and of the rules: 1 to 12, and no place beyond the longest file of the version. Assumes nothing.
 use Prim.Native.Nat.{ℕ, zero, suc, _+_, _-_, _*_, _≤_}
-use mathlib.Core.Path.{_≡_, refl, sym, ap, _∙_}
+use mathlib.Core.Path.{_≡_, refl, sym}
 use mathlib.Core.Bool.{Bool, true, false, _&&_, _||_}
 use mathlib.Core.List.{List, [], _∷_, _++_}
-use mathlib.Core.Option.{Option, none, some}
-use native.Mathlib.Nat.{add-zero}
+use native.Mathlib.Nat.{suc-mul}
 use native.Mathlib.Omega.{arith}
 use lib.Dec.{leb, ltb, eqb}
 use lib.ListN.{length, drop}
-use lib.Seq.{getD-drop}
 use borrow.Author.Tests.{leb-true}
-use Rattle.model.specs.Limits.{mostCores, mostJobs}
-use Rattle.format.specs.Bytes.{byteAt, be32, within}
-use Rattle.format.specs.Phrase.{Bell, sounding, Note}
-use Rattle.format.specs.Reading.{countAt, headerBytes, coresAt, bellCountAt, bellsAt, bellBytes, noteBytes, mostBells, mostListed, mostBytes, Outcome, ok, refused, _>>=_, _>>_, require, orRefuse, bellIn, bellInRange, find, isNone, bellRecord, areTimes, rises, listedIn, noteIn, noteFields, noteRecord, bellsFrom, notesFrom, noteCountAt, bellsOf, notesOf, reading}
-use Rattle.format.proofs.Passed.{within-true, never}
-use Rattle.format.proofs.NoteReading.{record-is}
-use Rattle.format.proofs.FileReading.{bells-read}
+use Rattle.model.specs.Limits.{mostCores}
+use Rattle.model.specs.Refusals.{wrongVersion, wrongCount, wrongEnd, wrongCores, wrongBellCount, wrongBell, doubledKey, tooManyNotes, wrongNoteLength, silentKey, wrongTimes, wrongListed}
+use Rattle.format.specs.Bytes.{number, within}
+use Rattle.format.specs.Layout.{Layout, first, isVersion, layout, byteCountAt, uncountedBytes, coresAt, bellCountAt, bellsAt, bellBytes, noteCountAt, mostBells, mostListed, noteLength, listedCount, isNoteLength, mostBytes}
+use Rattle.format.specs.Outcome.{Outcome, ok, refused, _>>=_, _>>_, require}
+use Rattle.format.specs.Phrase.{Bell, Note, Phrase, sounding, find, isNone, isSome}
+use Rattle.format.specs.Rules.{bellInRange, bellRules, areTimes, rises, noteRules, bellsRules, notesRules, allBells, allNotes, rulesBy, rules}
+use Rattle.format.specs.Reading.{bellIn, bellRecord, noteIn, noteRecord, bellsFrom, notesFrom, bellsIn, notesIn, readingBy, reading}
+use Rattle.format.proofs.Passed.{within-true, never, required}
+use Rattle.format.proofs.Digits.{number-drop}
+use Rattle.format.proofs.Layouts.{longest, length-is, lengths, head-within, bells-within, notes-within}
 
 -- a number and a place that a refusal may have
-abbrev Known : ℕ → ℕ → Type 0
-Known n at = (1 ≤ n) × (n ≤ 12) × (at ≤ mostBytes)
+abbrev Known : Layout → ℕ → ℕ → Type 0
+Known l n at = (within wrongVersion wrongListed n ≡ true) × (at ≤ mostBytes l)
 
 -- the outcome has such, if it is a refusal
-abbrev Refuses : {A : Type 0} → Outcome A → Type 0
-Refuses o = (n at : ℕ) → o ≡ refused n at → Known n at
+abbrev Refuses : {A : Type 0} → Layout → Outcome A → Type 0
+Refuses l o = (n at : ℕ) → o ≡ refused n at → Known l n at
 
-module _ {A : Type 0} where
-  value-refuses : (a : A) → Refuses (ok a)
+module _ {A : Type 0} (l : Layout) where
+  value-refuses : (a : A) → Refuses l (ok a)
   value-refuses a n at e = absurd (never n at (sym e))
 
-  known-refuses : (n at : ℕ) → Known n at → Refuses {A = A} (refused n at)
+  known-refuses : (n at : ℕ) → Known l n at → Refuses {A = A} l (refused n at)
   known-refuses n at h m to e =
       let p : n ≡ m = cc in
       let q : at ≡ to = cc in
-      omega (arith, p, q, h)
+      (rw p at (h .0), omega (arith, q, h .1))
 
-  require-refuses : (b : Bool) (n at : ℕ) {k : Outcome A} → Known n at → (b ≡ true → Refuses k) → Refuses (_>>_ (require b n at) k)
+  require-refuses : (b : Bool) (n at : ℕ) {k : Outcome A} → Known l n at → (b ≡ true → Refuses l k) → Refuses l (_>>_ (require b n at) k)
   require-refuses true n at h f = f refl
   require-refuses false n at h f = known-refuses n at h
 
-  then-refuses : {B : Type 0} (o : Outcome B) {k : B → Outcome A} → Refuses o → ((b : B) → o ≡ ok b → Refuses (k b)) → Refuses (_>>=_ o k)
+  then-refuses : {B : Type 0} (o : Outcome B) {k : B → Outcome A} → Refuses l o → ((b : B) → o ≡ ok b → Refuses l (k b)) → Refuses l (_>>=_ o k)
   then-refuses (ok b) h f = f b refl
   then-refuses (refused n at) h f = known-refuses n at (h n at refl)
 
--- ---- one record
+-- a note that is read is not longer than one that lists the most
+record-size : (l : Layout) (bells : List Bell) (own at : ℕ) (p : List ℕ) (n : Note) → noteRecord l bells own at p ≡ ok n → number 1 0 p ≤ noteLength l mostListed
+unfolding noteRecord
+record-size l bells own at p n e =
+    let some = required (leb 1 (length p)) wrongEnd at e in
+    let size = required (isNoteLength l (number 1 0 p)) wrongNoteLength at (some .1) in
+    let is = length-is l (number 1 0 p) (size .0) in
+    omega (arith, is, lengths l (listedCount l (number 1 0 p)) (is .0))
 
-module _ (at : ℕ) (p : List ℕ) (h : at ≤ mostBytes) where
-  bell-refuses : (bells : List Bell) → Refuses (bellRecord bells at p)
-  unfolding bellRecord
-  bell-refuses bells =
-      require-refuses (leb bellBytes (length p)) 3 at (omega arith)
-      (λ l. require-refuses (bellInRange (bellIn p)) 6 at (omega arith) (λ r. require-refuses (isNone (find (sounding (bellIn p)) bells)) 7 at (omega arith) (λ a. value-refuses (bellIn p))))
+module _ (l : Layout) where
+  -- ---- one record
 
-  fields-refuse : (bells : List Bell) (own : ℕ) → Refuses (noteFields bells own at p)
-  unfolding noteFields
-  fields-refuse bells own =
-      then-refuses (orRefuse (find (byteAt p 1) bells) 10 at) (sounds (find (byteAt p 1) bells))
-      (λ b e. require-refuses (areTimes (be32 p 2) (be32 p 6) (be32 p 10)) 11 at (omega arith) (λ t. require-refuses (rises own 0 (listedIn p)) 12 at (omega arith) (λ r. value-refuses (noteIn p b))))
-    where
-      sounds : (o : Option ℕ) → Refuses (orRefuse o 10 at)
-      sounds (some x) = value-refuses x
-      sounds none = known-refuses 10 at (omega arith)
+  module _ (at : ℕ) (h : at ≤ mostBytes l) where
+    bell-rules-refuse : (before : List Bell) (b : Bell) → Refuses l (bellRules before at b)
+    unfolding bellRules within
+    bell-rules-refuse before b =
+        require-refuses l (bellInRange b) wrongBell at (refl, h) (λ r. require-refuses l (isNone (find (sounding b) before)) doubledKey at (refl, h) (λ a. value-refuses l b))
 
-  note-refuses : (bells : List Bell) (own : ℕ) → Refuses (noteRecord bells own at p)
-  unfolding noteRecord
-  note-refuses bells own =
-      require-refuses (leb 1 (length p)) 3 at (omega arith)
-      (λ l. require-refuses (within noteBytes (noteBytes + mostListed) (byteAt p 0)) 9 at (omega arith)
-      (λ w. require-refuses (ltb (byteAt p 0) (length p)) 3 at (omega arith) (λ r. fields-refuse bells own)))
+    note-rules-refuse : (bells : List Bell) (own : ℕ) (n : Note) → Refuses l (noteRules bells own at n)
+    unfolding noteRules within
+    note-rules-refuse bells own n =
+        require-refuses l (isSome (find (n .key) bells)) silentKey at (refl, h)
+        (λ b. require-refuses l (areTimes (n .earliestRelease) (n .latestRelease) (n .deadline)) wrongTimes at (refl, h) (λ t. require-refuses l (rises own 0 (n .listed)) wrongListed at (refl, h) (λ r. value-refuses l n)))
 
--- ---- the file
+    bell-refuses : (before : List Bell) (p : List ℕ) → Refuses l (bellRecord l before at p)
+    unfolding bellRecord within
+    bell-refuses before p = require-refuses l (leb (bellBytes l) (length p)) wrongEnd at (refl, h) (λ e. bell-rules-refuse before (bellIn l p))
 
-module _ (s : List ℕ) where
-  bells-refuse : (n at : ℕ) → at + n * bellBytes ≤ mostBytes → (bells : List Bell) → Refuses (bellsFrom s n at bells)
-  unfolding bellsFrom
-  bells-refuse zero at h bells = value-refuses bells
-  bells-refuse (suc n) at h bells =
-      then-refuses (bellRecord bells at (drop at s)) (bell-refuses at (drop at s) (omega arith) bells) (λ b e. bells-refuse n (at + bellBytes) (omega arith) (bells ++ b ∷ []))
+    note-refuses : (bells : List Bell) (own : ℕ) (p : List ℕ) → Refuses l (noteRecord l bells own at p)
+    unfolding noteRecord within
+    note-refuses bells own p =
+        require-refuses l (leb 1 (length p)) wrongEnd at (refl, h)
+        (λ e. require-refuses l (isNoteLength l (number 1 0 p)) wrongNoteLength at (refl, h)
+        (λ w. require-refuses l (ltb (number 1 0 p) (length p)) wrongEnd at (refl, h) (λ r. note-rules-refuse bells own (noteIn l p))))
 
-  notes-refuse : (bells : List Bell) (n at : ℕ) → at + n * (1 + noteBytes + mostListed) ≤ mostBytes → (notes : List Note) → Refuses (notesFrom s bells n at notes)
-  unfolding notesFrom
-  notes-refuse bells zero at h notes = require-refuses (leb (length s) at) 3 at (omega arith) (λ l. value-refuses notes)
-  notes-refuse bells (suc n) at h notes =
-      then-refuses (noteRecord bells (length notes) at (drop at s)) (note-refuses at (drop at s) (omega arith) bells (length notes))
-      (λ a e.
-      let size : byteAt (drop at s) 0 ≡ byteAt s at = getD-drop at s 0 0 ∙ ap (byteAt s) (add-zero at) in
-      notes-refuse bells n (at + (1 + byteAt s at)) (omega (arith, size, record-is bells (length notes) at (drop at s) a e .0 .most)) (notes ++ a ∷ []))
+  -- ---- the rules
 
-  all-bells-refuse : Refuses (bellsOf s)
-  unfolding bellsOf
-  all-bells-refuse =
-      require-refuses (ltb bellCountAt (length s)) 3 bellCountAt (omega arith)
-      (λ l. require-refuses (within 1 mostBells (byteAt s bellCountAt)) 5 bellCountAt (omega arith)
-      (λ w. bells-refuse (byteAt s bellCountAt) bellsAt (omega (arith, within-true 1 mostBells (byteAt s bellCountAt) w)) []))
+  bells-rules-refuse : (bells : List Bell) (at : ℕ) → at + length bells * bellBytes l ≤ mostBytes l → (before : List Bell) → Refuses l (bellsRules l bells at before)
+  unfolding bellsRules
+  bells-rules-refuse [] at h before = value-refuses l before
+  bells-rules-refuse (b ∷ bs) at h before =
+      let k = suc-mul (length bs) (bellBytes l) in
+      then-refuses l (bellRules before at b) (bell-rules-refuse at (omega (arith, k)) before b)
+      (λ c e. bells-rules-refuse bs (at + bellBytes l) (omega (arith, k)) (before ++ c ∷ []))
 
-  all-notes-refuse : (bells : List Bell) → byteAt s bellCountAt ≤ mostBells → Refuses (notesOf s bells)
-  unfolding notesOf
-  all-notes-refuse bells few =
-      require-refuses (ltb (noteCountAt s) (length s)) 3 (noteCountAt s) (omega arith)
-      (λ l. require-refuses (leb (byteAt s (noteCountAt s)) mostJobs) 8 (noteCountAt s) (omega arith)
-      (λ w. notes-refuse bells (byteAt s (noteCountAt s)) (noteCountAt s + 1) (omega (arith, leb-true (byteAt s (noteCountAt s)) mostJobs w)) []))
+  notes-rules-refuse : (bells : List Bell) (notes : List Note) (at : ℕ) → at + length notes * (1 + noteLength l mostListed) ≤ mostBytes l → (before : List Note)
+      → Refuses l (notesRules l bells notes at before)
+  unfolding notesRules within
+  notes-rules-refuse bells [] at h before = value-refuses l before
+  notes-rules-refuse bells (n ∷ ns) at h before =
+      let k = suc-mul (length ns) (1 + noteLength l mostListed) in
+      let here : at ≤ mostBytes l = omega (arith, k) in
+      require-refuses l (leb (length (n .listed)) mostListed) wrongNoteLength at (refl, here)
+      (λ few. then-refuses l (noteRules bells (length before) at n) (note-rules-refuse at here bells (length before) n)
+      (λ c e. notes-rules-refuse bells ns (at + (1 + noteLength l (length (n .listed)))) (omega (arith, k, lengths l (length (n .listed)) (leb-true (length (n .listed)) mostListed few))) (before ++ c ∷ [])))
 
-  pub refused-within : (n at : ℕ) → reading s ≡ refused n at → (1 ≤ n) × (n ≤ 12) × (at ≤ mostBytes)
-  unfolding reading
-  refused-within =
-      require-refuses (leb (length s) 0 || eqb (byteAt s 0) 1) 1 0 (omega arith)
-      (λ v. require-refuses (leb headerBytes (length s) && eqb (be32 s countAt) (length s - headerBytes)) 2 0 (omega arith)
-      (λ c. require-refuses (ltb coresAt (length s)) 3 coresAt (omega arith)
-      (λ l. require-refuses (within 1 mostCores (byteAt s coresAt)) 4 coresAt (omega arith)
-      (λ w. then-refuses (bellsOf s) all-bells-refuse
-      (λ bells e. then-refuses (notesOf s bells) (all-notes-refuse bells (omega (arith, bells-read s bells e)))
-      (λ notes f. value-refuses (record { version = byteAt s 0; cores = byteAt s coresAt; bells = bells; notes = notes })))))))
+  all-bells-refuse : (bells : List Bell) → Refuses l (allBells l bells)
+  unfolding allBells within
+  all-bells-refuse bells =
+      require-refuses l (within 1 mostBells (length bells)) wrongBellCount (bellCountAt l) (refl, omega (arith, head-within l))
+      (λ w. bells-rules-refuse bells (bellsAt l) (omega (arith, bells-within l (length bells) (within-true 1 mostBells (length bells) w .1))) [])
+
+  all-notes-refuse : (bells : List Bell) (notes : List Note) (n : ℕ) → n ≤ mostBells → Refuses l (allNotes l bells notes (noteCountAt l n))
+  unfolding allNotes within
+  all-notes-refuse bells notes n h =
+      require-refuses l (leb (length notes) (l .mostNotes)) tooManyNotes (noteCountAt l n) (refl, omega (arith, bells-within l n h))
+      (λ w. notes-rules-refuse bells notes (noteCountAt l n + l .countBytes) (notes-within l n (length notes) h (leb-true (length notes) (l .mostNotes) w)) [])
+
+  few-bells : (bells bs : List Bell) → allBells l bells ≡ ok bs → length bells ≤ mostBells
+  unfolding allBells
+  few-bells bells bs e = within-true 1 mostBells (length bells) (required (within 1 mostBells (length bells)) wrongBellCount (bellCountAt l) e .0) .1
+
+  rules-by-refuse : (x : Phrase) → Refuses l (rulesBy l x)
+  unfolding rulesBy within
+  rules-by-refuse x =
+      require-refuses l (within 1 mostCores (x .cores)) wrongCores coresAt (refl, omega (arith, head-within l))
+      (λ c. then-refuses l (allBells l (x .bells)) (all-bells-refuse (x .bells))
+      (λ bs e. then-refuses l (allNotes l bs (x .notes) (noteCountAt l (length (x .bells)))) (all-notes-refuse bs (x .notes) (length (x .bells)) (few-bells (x .bells) bs e))
+      (λ ns f. value-refuses l (record { version = x .version; cores = x .cores; bells = bs; notes = ns }))))
+
+  -- ---- the file
+
+  module _ (s : List ℕ) where
+    bells-refuse : (n at : ℕ) → at + n * bellBytes l ≤ mostBytes l → (before : List Bell) → Refuses l (bellsFrom l s n at before)
+    unfolding bellsFrom
+    bells-refuse zero at h before = value-refuses l before
+    bells-refuse (suc n) at h before =
+        let k = suc-mul n (bellBytes l) in
+        then-refuses l (bellRecord l before at (drop at s)) (bell-refuses at (omega (arith, k)) before (drop at s))
+        (λ b e. bells-refuse n (at + bellBytes l) (omega (arith, k)) (before ++ b ∷ []))
+
+    notes-refuse : (bells : List Bell) (n at : ℕ) → at + n * (1 + noteLength l mostListed) ≤ mostBytes l → (before : List Note)
+        → Refuses l (notesFrom l s bells n at before)
+    unfolding notesFrom within
+    notes-refuse bells zero at h before = require-refuses l (leb (length s) at) wrongEnd at (refl, omega arith) (λ e. value-refuses l before)
+    notes-refuse bells (suc n) at h before =
+        let k = suc-mul n (1 + noteLength l mostListed) in
+        then-refuses l (noteRecord l bells (length before) at (drop at s)) (note-refuses at (omega (arith, k)) bells (length before) (drop at s))
+        (λ a e.
+        let size = record-size l bells (length before) at (drop at s) a e in
+        notes-refuse bells n (at + (1 + number 1 at s)) (omega (arith, k, size, number-drop 1 at s)) (before ++ a ∷ []))
+
+    bells-of-refuse : Refuses l (bellsIn l s)
+    unfolding bellsIn within
+    bells-of-refuse =
+        let n : ℕ = number 1 (bellCountAt l) s in
+        require-refuses l (ltb (bellCountAt l) (length s)) wrongEnd (bellCountAt l) (refl, omega (arith, head-within l))
+        (λ e. require-refuses l (within 1 mostBells n) wrongBellCount (bellCountAt l) (refl, omega (arith, head-within l))
+        (λ w. bells-refuse n (bellsAt l) (omega (arith, bells-within l n (within-true 1 mostBells n w .1))) []))
+
+    notes-of-refuse : (bells : List Bell) (n : ℕ) → n ≤ mostBells → Refuses l (notesIn l s bells (noteCountAt l n))
+    unfolding notesIn within
+    notes-of-refuse bells n h =
+        let at : ℕ = noteCountAt l n in
+        let k : ℕ = number (l .countBytes) at s in
+        let room : at ≤ mostBytes l = omega (arith, bells-within l n h) in
+        require-refuses l (leb (at + l .countBytes) (length s)) wrongEnd at (refl, room)
+        (λ e. require-refuses l (leb k (l .mostNotes)) tooManyNotes at (refl, room)
+        (λ w. notes-refuse bells k (at + l .countBytes) (notes-within l n k h (leb-true k (l .mostNotes) w)) []))
+
+    bells-few : (bs : List Bell) → bellsIn l s ≡ ok bs → number 1 (bellCountAt l) s ≤ mostBells
+    unfolding bellsIn
+    bells-few bs e =
+        let n : ℕ = number 1 (bellCountAt l) s in
+        let a = required (ltb (bellCountAt l) (length s)) wrongEnd (bellCountAt l) e in
+        within-true 1 mostBells n (required (within 1 mostBells n) wrongBellCount (bellCountAt l) (a .1) .0) .1
+
+    reading-by-refuses : Refuses l (readingBy l s)
+    unfolding readingBy within
+    reading-by-refuses =
+        let n : ℕ = number 1 (bellCountAt l) s in
+        require-refuses l (leb uncountedBytes (length s) && eqb (number 4 byteCountAt s) (length s - uncountedBytes)) wrongCount 0 (refl, omega arith)
+        (λ a. require-refuses l (ltb coresAt (length s)) wrongEnd coresAt (refl, omega (arith, head-within l))
+        (λ b. require-refuses l (within 1 mostCores (number 1 coresAt s)) wrongCores coresAt (refl, omega (arith, head-within l))
+        (λ c. then-refuses l (bellsIn l s) bells-of-refuse
+        (λ bs e. then-refuses l (notesIn l s bs (noteCountAt l n)) (notes-of-refuse bs n (bells-few bs e))
+        (λ ns f. value-refuses l (record { version = number 1 0 s; cores = number 1 coresAt s; bells = bs; notes = ns }))))))
+
+reading-refuses : (s : List ℕ) → Refuses (layout (number 1 0 s)) (reading s)
+unfolding reading within
+reading-refuses s =
+    require-refuses (layout (number 1 0 s)) (leb (length s) 0 || isVersion (number 1 0 s)) wrongVersion 0 (refl, omega arith) (λ v. reading-by-refuses (layout (number 1 0 s)) s)
+
+rules-refuse : (x : Phrase) → Refuses (layout (x .version)) (rules x)
+unfolding rules within
+rules-refuse x =
+    require-refuses (layout (x .version)) (isVersion (x .version)) wrongVersion 0 (refl, omega arith) (λ v. rules-by-refuse (layout (x .version)) x)
+
+-- A refusal of reading has a number from 1 to 12, and a place in the longest file of the version, or at its end.
+pub refused-by : (s : List ℕ) (n at : ℕ) → reading s ≡ refused n at → (1 ≤ n) × (n ≤ wrongListed) × (at ≤ mostBytes (layout (number 1 0 s)))
+refused-by s n at e =
+    let (known, place) = reading-refuses s n at e in
+    let (low, high) = within-true wrongVersion wrongListed n known in
+    (low, high, place)
+
+-- A refusal of reading has a number from 1 to 12, and a place in the longest file of any version, or at its end.
+pub refused-within : (s : List ℕ) (n at : ℕ) → reading s ≡ refused n at → (1 ≤ n) × (n ≤ wrongListed) × (at ≤ mostBytes first)
+refused-within s n at e =
+    let r = refused-by s n at e in
+    (r .0, r .1, omega (arith, r .2, longest (number 1 0 s)))
+
+-- So has a refusal of the rules, whatever the widths of the fields.
+pub rules-refused-within : (x : Phrase) (n at : ℕ) → rules x ≡ refused n at → (1 ≤ n) × (n ≤ wrongListed) × (at ≤ mostBytes first)
+rules-refused-within x n at e =
+    let (known, place) = rules-refuse x n at e in
+    let (low, high) = within-true wrongVersion wrongListed n known in
+    (low, high, omega (arith, place, longest (x .version)))

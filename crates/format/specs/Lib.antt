@@ -1,12 +1,12 @@
--- The phrase file: the phrase that it holds, how it is read, and how it is handed on.
+-- The phrase file: its layout, the phrase that it holds, its rules, how it is read and how it is written; and the jobs of a phrase.
 pub mod Bytes
+pub mod Layout
+pub mod Outcome
 pub mod Phrase
+pub mod Rules
 pub mod Reading
-pub mod Rows
-pub mod Results
-pub mod Tables
+pub mod Jobs
 pub mod Valid
-pub mod Analysable
 pub mod Writing
-pub mod Examples
-pub mod RowExamples
+pub mod examples
+pub mod internal

@@ -1,10 +1,9 @@
--- A phrase: what its file holds, and the jobs that the analysis makes of it. Assumes nothing.
+-- A phrase: what its file holds, and the look-up of a bell by its key. Assumes nothing.
 use Prim.Native.Nat.{ℕ, _+_, _-_}
-use mathlib.Core.Bool.{cond}
-use mathlib.Core.List.{List, [], map}
-use lib.Dec.{ltb}
-use lib.ListN.{getD}
-use Rattle.model.specs.Jobs.{Job}
+use mathlib.Core.Bool.{Bool, true, false, cond}
+use mathlib.Core.List.{List, [], _∷_}
+use mathlib.Core.Option.{Option, none, some}
+use lib.Dec.{ltb, eqb}
 
 -- A bell: the key written (N), the transposition (T) as a signed byte, so 232 to 255 are -24 to -1, and the execution-time range (hold range: ca, cb)
 -- and priority (rank: p) that it gives to its jobs.
@@ -15,15 +14,9 @@ pub record Bell : Type 0 where
   pub mostExecution : ℕ
   pub priority : ℕ
 
--- The key that a bell sounds for: N + T. (A sum below zero is 0 here, which is no key of a bell.)
-unfoldable pub sounding : Bell → ℕ
-sounding b = cond (ltb (b .transposition) 128) (b .written + b .transposition) (b .written + b .transposition - 256)
-
--- A note: its key as written, the number of the bell that sounds for it, release range (call range: ra, rb), deadline (due time: d), and the jobs that it
--- lists to wait for.
+-- A note: its key as written, release range (call range: ra, rb), deadline (due time: d), and the jobs that it lists to wait for.
 pub record Note : Type 0 where
   pub key : ℕ
-  pub bell : ℕ
   pub earliestRelease : ℕ
   pub latestRelease : ℕ
   pub deadline : ℕ
@@ -35,33 +28,23 @@ pub record Phrase : Type 0 where
   pub bells : List Bell
   pub notes : List Note
 
-abbrev pub noBell : Bell
-noBell = record { written = 0; transposition = 0; leastExecution = 0; mostExecution = 0; priority = 0 }
+-- The key that a bell sounds for: N + T. (A sum below zero is 0 here, which is no key of a bell.)
+unfoldable pub sounding : Bell → ℕ
+sounding b = cond (ltb (b .transposition) 128) (b .written + b .transposition) (b .written + b .transposition - 256)
 
-abbrev pub noNote : Note
-noNote = record { key = 0; bell = 0; earliestRelease = 0; latestRelease = 0; deadline = 0; listed = [] }
+-- the number, counted on from i, of the first bell that sounds for a key
+unfoldable pub findFrom : ℕ → ℕ → List Bell → Option ℕ
+unfolding sounding
+findFrom key i [] = none
+findFrom key i (b ∷ bs) = cond (eqb (sounding b) key) (some i) (findFrom key (i + 1) bs)
 
--- the note of job i
-abbrev pub note : Phrase → ℕ → Note
-note x i = getD (x .notes) i noNote
+abbrev pub find : ℕ → List Bell → Option ℕ
+find key = findFrom key 0
 
-abbrev pub bellOf : List Bell → Note → Bell
-bellOf bells n = getD bells (n .bell) noBell
+abbrev pub isNone : Option ℕ → Bool
+isNone none = true
+isNone (some x) = false
 
--- the job (stroke) of a note: the bell gives its execution-time range and its priority
-abbrev pub jobOf : List Bell → Note → Job
-jobOf bells n =
-    record {
-      earliestRelease = n .earliestRelease;
-      latestRelease = n .latestRelease;
-      leastExecution = bellOf bells n .leastExecution;
-      mostExecution = bellOf bells n .mostExecution;
-      deadline = n .deadline;
-      priority = bellOf bells n .priority;
-      bell = n .bell;
-      listed = n .listed;
-    }
-
--- The jobs of a phrase, in file order.
-abbrev pub jobsOf : Phrase → List Job
-jobsOf x = map (jobOf (x .bells)) (x .notes)
+abbrev pub isSome : Option ℕ → Bool
+isSome none = false
+isSome (some x) = true

@@ -1,40 +1,38 @@
 -- The file of a phrase. Assumes nothing.
-use Prim.Native.Nat.{ℕ, zero, suc, _+_, _/_, _%_}
+use Prim.Native.Nat.{ℕ, _+_}
 use mathlib.Core.List.{List, [], _∷_, _++_}
 use lib.ListN.{length}
+use Rattle.format.specs.Bytes.{digits, fieldsFile, records}
+use Rattle.format.specs.Layout.{Layout, layout, headWidths, bellWidths, noteWidths, noteLength}
 use Rattle.format.specs.Phrase.{Bell, Note, Phrase}
-use Rattle.format.specs.Reading.{noteBytes}
 
--- a number in so many bytes, big-endian
-unfoldable pub digits : ℕ → ℕ → List ℕ
-digits zero x = []
-digits (suc n) x = digits n (x / 256) ++ x % 256 ∷ []
+abbrev pub bellFields : Bell → List ℕ
+bellFields b = b .written ∷ b .transposition ∷ b .leastExecution ∷ b .mostExecution ∷ b .priority ∷ []
 
--- the records of a list, one after the other
-unfoldable pub records : {A : Type 0} → (A → List ℕ) → List A → List ℕ
-records f [] = []
-records f (x ∷ xs) = f x ++ records f xs
+unfoldable pub bellFile : Layout → Bell → List ℕ
+unfolding fieldsFile
+bellFile l b = fieldsFile (bellWidths l) (bellFields b)
 
-unfoldable pub bellFile : Bell → List ℕ
-unfolding digits
-bellFile b = b .written ∷ b .transposition ∷ digits 2 (b .leastExecution) ++ digits 2 (b .mostExecution) ++ b .priority ∷ []
+abbrev pub noteFields : Layout → Note → List ℕ
+noteFields l n = noteLength l (length (n .listed)) ∷ n .key ∷ n .earliestRelease ∷ n .latestRelease ∷ n .deadline ∷ n .listed
 
--- the length byte counts what follows it
-unfoldable pub noteFile : Note → List ℕ
-unfolding digits
-noteFile n =
-    (noteBytes + length (n .listed))
-    ∷ n .key
-    ∷ digits 4 (n .earliestRelease)
-    ++ digits 4 (n .latestRelease)
-    ++ digits 4 (n .deadline)
-    ++ n .listed
+unfoldable pub noteFile : Layout → Note → List ℕ
+unfolding noteLength fieldsFile
+noteFile l n = fieldsFile (noteWidths l (length (n .listed))) (noteFields l n)
 
--- what the count counts
-unfoldable pub counted : Phrase → List ℕ
-unfolding records bellFile noteFile
-counted x = x .cores ∷ length (x .bells) ∷ records bellFile (x .bells) ++ length (x .notes) ∷ records noteFile (x .notes)
+-- what follows the header: the bells, the number of notes, the notes
+unfoldable pub body : Layout → Phrase → List ℕ
+unfolding digits records bellFile noteFile
+body l x = records (bellFile l) (x .bells) ++ (digits (l .countBytes) (length (x .notes)) ++ records (noteFile l) (x .notes))
+
+-- the count counts the cores, the number of bells, and the body
+abbrev pub headFields : Layout → Phrase → List ℕ
+headFields l x = x .version ∷ (1 + 1 + length (body l x)) ∷ x .cores ∷ length (x .bells) ∷ []
+
+unfoldable pub writtenBy : Layout → Phrase → List ℕ
+unfolding fieldsFile body
+writtenBy l x = fieldsFile (headWidths l) (headFields l x) ++ body l x
 
 unfoldable pub written : Phrase → List ℕ
-unfolding digits counted
-written x = x .version ∷ digits 4 (length (counted x)) ++ counted x
+unfolding layout writtenBy
+written x = writtenBy (layout (x .version)) x

@@ -1,2 +1,3 @@
 -- Laws of jobs in words.
 pub mod Jobs
+pub mod JobRow

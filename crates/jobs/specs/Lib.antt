@@ -1,3 +1,3 @@
 -- Jobs in words.
-pub mod Rows
-pub mod Fields
+pub mod internal
+pub mod examples

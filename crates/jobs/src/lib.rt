@@ -1,33 +1,23 @@
 // Jobs, read from their rows of words.
+pub mod row;
+
 ghost use mathlib.Core.Path.{_≡_};
 ghost use Prim.Native.Nat.{_<_, _≤_};
 ghost use lib.ListN.{getD, length};
 ghost use Rattle.model.specs.Folds.{member};
 ghost use Rattle.model.specs.Jobs.{job, predecessors, before};
-ghost use Rattle.jobs.specs.Rows.{rowWords, mostPredecessors, word, jobsOf, Rows};
-ghost use Rattle.jobs.specs.Fields.{fieldCount, fieldAt};
-
-// The most jobs that a phrase has.
-pub const MOST_JOBS: usize = 64;
-
-// The row of a job.
-const ROW_WORDS: usize = 16;
-
-const EARLIEST_RELEASE: usize = 0;
-
-const LATEST_RELEASE: usize = 1;
-
-const LEAST_EXECUTION: usize = 2;
-
-const MOST_EXECUTION: usize = 3;
-
-const DEADLINE: usize = 4;
-
-const PRIORITY: usize = 5;
-
-const PREDECESSOR_COUNT: usize = 6;
-
-const PREDECESSORS: usize = 7;
+ghost use Rattle.format.specs.internal.Analysable.{mostPredecessors};
+ghost use Rattle.jobs.specs.internal.JobRow.{rowWords, word, jobsOfRows, Rows};
+ghost use Rattle.jobs.specs.internal.Fields.{fieldCount, fieldAt};
+use crate::row::DEADLINE;
+use crate::row::EARLIEST_RELEASE;
+use crate::row::LATEST_RELEASE;
+use crate::row::LEAST_EXECUTION;
+use crate::row::MOST_EXECUTION;
+use crate::row::PREDECESSOR_COUNT;
+use crate::row::PREDECESSORS;
+use crate::row::PRIORITY;
+use crate::row::ROW_WORDS;
 
 fn word_at(rows: &[u32], k: usize, i: usize, at: usize) -> u32
     requires { ⌜ (i < k) × (at < rowWords) × Rows (now rows) k ⌝ }
@@ -38,63 +28,63 @@ fn word_at(rows: &[u32], k: usize, i: usize, at: usize) -> u32
 
 fn field(rows: &[u32], k: usize, i: usize, at: usize) -> u32
     requires { ⌜ (i < k) × (at < fieldCount) × Rows (now rows) k ⌝ }
-    ensures { λ r. ⌜ r ≡ fieldAt at (job (jobsOf (now (rows .entry)) k) i) ⌝ }
+    ensures { λ r. ⌜ r ≡ fieldAt at (job (jobsOfRows (now (rows .entry)) k) i) ⌝ }
 {
     word_at(rows, k, i, at)
 }
 
 pub fn earliest_release(rows: &[u32], k: usize, i: usize) -> u32
     requires { ⌜ (i < k) × Rows (now rows) k ⌝ }
-    ensures { λ r. ⌜ r ≡ job (jobsOf (now (rows .entry)) k) i .earliestRelease ⌝ }
+    ensures { λ r. ⌜ r ≡ job (jobsOfRows (now (rows .entry)) k) i .earliestRelease ⌝ }
 {
     field(rows, k, i, EARLIEST_RELEASE)
 }
 
 pub fn latest_release(rows: &[u32], k: usize, i: usize) -> u32
     requires { ⌜ (i < k) × Rows (now rows) k ⌝ }
-    ensures { λ r. ⌜ r ≡ job (jobsOf (now (rows .entry)) k) i .latestRelease ⌝ }
+    ensures { λ r. ⌜ r ≡ job (jobsOfRows (now (rows .entry)) k) i .latestRelease ⌝ }
 {
     field(rows, k, i, LATEST_RELEASE)
 }
 
 pub fn least_execution(rows: &[u32], k: usize, i: usize) -> u32
     requires { ⌜ (i < k) × Rows (now rows) k ⌝ }
-    ensures { λ r. ⌜ r ≡ job (jobsOf (now (rows .entry)) k) i .leastExecution ⌝ }
+    ensures { λ r. ⌜ r ≡ job (jobsOfRows (now (rows .entry)) k) i .leastExecution ⌝ }
 {
     field(rows, k, i, LEAST_EXECUTION)
 }
 
 pub fn most_execution(rows: &[u32], k: usize, i: usize) -> u32
     requires { ⌜ (i < k) × Rows (now rows) k ⌝ }
-    ensures { λ r. ⌜ r ≡ job (jobsOf (now (rows .entry)) k) i .mostExecution ⌝ }
+    ensures { λ r. ⌜ r ≡ job (jobsOfRows (now (rows .entry)) k) i .mostExecution ⌝ }
 {
     field(rows, k, i, MOST_EXECUTION)
 }
 
 pub fn deadline(rows: &[u32], k: usize, i: usize) -> u32
     requires { ⌜ (i < k) × Rows (now rows) k ⌝ }
-    ensures { λ r. ⌜ r ≡ job (jobsOf (now (rows .entry)) k) i .deadline ⌝ }
+    ensures { λ r. ⌜ r ≡ job (jobsOfRows (now (rows .entry)) k) i .deadline ⌝ }
 {
     field(rows, k, i, DEADLINE)
 }
 
 pub fn priority(rows: &[u32], k: usize, i: usize) -> u32
     requires { ⌜ (i < k) × Rows (now rows) k ⌝ }
-    ensures { λ r. ⌜ r ≡ job (jobsOf (now (rows .entry)) k) i .priority ⌝ }
+    ensures { λ r. ⌜ r ≡ job (jobsOfRows (now (rows .entry)) k) i .priority ⌝ }
 {
     field(rows, k, i, PRIORITY)
 }
 
 pub fn predecessor_count(rows: &[u32], k: usize, i: usize) -> usize
     requires { ⌜ (i < k) × Rows (now rows) k ⌝ }
-    ensures { λ r. ⌜ (r ≡ length (predecessors (jobsOf (now (rows .entry)) k) i)) × (r ≤ mostPredecessors) ⌝ }
+    ensures { λ r. ⌜ (r ≡ length (predecessors (jobsOfRows (now (rows .entry)) k) i)) × (r ≤ mostPredecessors) ⌝ }
 {
     word_at(rows, k, i, PREDECESSOR_COUNT) as usize
 }
 
 pub fn predecessor(rows: &[u32], k: usize, i: usize, j: usize) -> usize
-    requires { ⌜ (i < k) × (j < length (predecessors (jobsOf (now rows) k) i)) × Rows (now rows) k ⌝ }
-    ensures { λ r. ⌜ (r ≡ getD (predecessors (jobsOf (now (rows .entry)) k) i) j 0) × (r < i) ⌝ }
+    requires { ⌜ (i < k) × (j < length (predecessors (jobsOfRows (now rows) k) i)) × Rows (now rows) k ⌝ }
+    ensures { λ r. ⌜ (r ≡ getD (predecessors (jobsOfRows (now (rows .entry)) k) i) j 0) × (r < i) ⌝ }
 {
     word_at(rows, k, i, PREDECESSORS + j) as usize
 }
@@ -102,7 +92,7 @@ pub fn predecessor(rows: &[u32], k: usize, i: usize, j: usize) -> usize
 // Whether job w is a predecessor of job i.
 pub fn is_predecessor(rows: &[u32], k: usize, i: usize, w: usize) -> bool
     requires { ⌜ (i < k) × Rows (now rows) k ⌝ }
-    ensures { λ r. ⌜ r ≡ member w (predecessors (jobsOf (now (rows .entry)) k) i) ⌝ }
+    ensures { λ r. ⌜ r ≡ member w (predecessors (jobsOfRows (now (rows .entry)) k) i) ⌝ }
 {
     let n = predecessor_count(rows, k, i);
     let mut j = 0;
@@ -118,7 +108,7 @@ pub fn is_predecessor(rows: &[u32], k: usize, i: usize, w: usize) -> bool
 // Whether job j goes before job i.
 pub fn goes_before(rows: &[u32], k: usize, j: usize, i: usize) -> bool
     requires { ⌜ (j < k) × (i < k) × Rows (now rows) k ⌝ }
-    ensures { λ r. ⌜ r ≡ before (jobsOf (now (rows .entry)) k) j i ⌝ }
+    ensures { λ r. ⌜ r ≡ before (jobsOfRows (now (rows .entry)) k) j i ⌝ }
 {
     let a = priority(rows, k, j);
     let b = priority(rows, k, i);

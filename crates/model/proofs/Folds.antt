@@ -5,14 +5,14 @@ use mathlib.Core.Logic.{_⊎_, inl, inr, ⊎-elim}
 use mathlib.Core.Bool.{Bool, true, false, cond, true≢false, false≢true}
 use mathlib.Core.List.{List, [], _∷_, _++_}
 use native.Mathlib.Nat.{le-of-suc-le-suc, not-suc-le-zero}
-use native.Mathlib.Numerals.{lt-of-le-of-ne}
+use native.Mathlib.Numerals.{lt-of-le-of-ne, add-one}
 use native.Mathlib.Decide.{ℕ-discrete}
 use native.Mathlib.Omega.{arith}
 use lib.Dec.{leb, eqb}
 use lib.ListN.{getD, length, set, replicate}
 use lib.Seq.{getD-set-same, getD-set-other}
 use borrow.Author.Tests.{leb-true, leb-false, eqb-true, eq-eqb}
-use Rattle.model.specs.Folds.{ind, count, every, member, largest, all, Limit, infinite, finite, smaller, smallest}
+use Rattle.model.specs.Folds.{ind, count, every, member, largest, all, Limit, infinite, finite, smaller, smallest, sum}
 use Rattle.model.proofs.Booleans.{cases, and-left, and-right, and-both, or-left, or-right, or-cases, ind-le}
 
 -- ---- elements
@@ -219,3 +219,19 @@ below-suc P n f x j h = go (ℕ-discrete j n)
     go : Dec (j ≡ n) → P j
     go (yes e) = subst P (sym e) x
     go (no d) = f j (lt-of-le-of-ne (le-of-suc-le-suc h) d)
+
+-- ---- sums
+
+-- The sum of n + 1 numbers is that of n and one more.
+pub sum-next : (f : ℕ → ℕ) (n : ℕ) → sum f (n + 1) ≡ sum f n + f n
+unfolding sum
+sum-next f n = rw add-one
+
+-- Sums of numbers that agree below n are the same.
+pub sum-ext : (f g : ℕ → ℕ) (n : ℕ) → ((i : ℕ) → i < n → f i ≡ g i) → sum f n ≡ sum g n
+unfolding sum
+sum-ext f g zero h = refl
+sum-ext f g (suc n) h =
+    let p = sum-ext f g n (λ i b. h i (omega arith)) in
+    let q = h n (omega arith) in
+    λ i. p i + q i

@@ -1,4 +1,4 @@
--- The number that a host gets: its parts are apart, and where it is 0 every run keeps the finish times of the analysis (demand 3). Assumes nothing.
+-- The number that a host gets: its parts are apart, and 0 says accepted. Assumes nothing.
 use Prim.Native.Nat.{ℕ, _<_}
 use mathlib.Core.Path.{_≡_, refl, ap}
 use mathlib.Core.List.{List}
@@ -6,29 +6,33 @@ use native.Mathlib.Omega.{arith}
 use Rattle.model.specs.Exploration.{accepted, refused, late}
 use Rattle.model.specs.Exploration.{Verdict}
 use Rattle.model.proofs.Places.{refused-within}
-use Rattle.model.proofs.Soundness.{soundness}
-use Rattle.format.specs.Phrase.{Phrase, jobsOf}
-use Rattle.format.specs.Reading.{Outcome, ok, reading}
-use Rattle.format.specs.Reading.{refused as unread}
-use Rattle.format.specs.Valid.{AreBytes}
+use Rattle.format.specs.Phrase.{Phrase}
+use Rattle.format.specs.Jobs.{jobsOf}
+use Rattle.format.specs.Outcome.{Outcome, ok}
+use Rattle.format.specs.Reading.{reading}
+use Rattle.format.specs.Outcome.{refused as unread}
+use Rattle.format.specs.Bytes.{AreBytes}
 use Rattle.format.proofs.Refusals.{refused-within as unread-within}
-use Rattle.checker.specs.Checking.{capacityFor, verdict, Told, toldFor}
-use Rattle.checker.proofs.Promise.{can-analyse}
+use Rattle.checker.specs.Checking.{capacityFor, verdict, answerFor, Values, valuesOf}
+use Rattle.checker.specs.declared.result.Answer.the-variants.{Accepted}
+use Rattle.format.proofs.First.{first-bytes}
 use Rattle.checker.proofs.Refusals.{place-within}
-use Rattle.phrase.specs.Host.{places, numberOf, numberFor, Playable}
+use Rattle.phrase.specs.Host.{places, numberOf, numberFor}
 
 module _ (file : List ℕ) (bytes : AreBytes file) (words : ℕ) where
-  pub place-apart : (w : Told) → w ≡ toldFor (verdict (reading file) words) → w .place < places
-  place-apart w e = omega (arith, place-within file bytes words, ap (λ (y : Told). y .place) e)
+  -- Every place is below `places`.
+  pub place-apart : (w : Values) → w ≡ valuesOf (answerFor (verdict (reading file) words)) → w .place < places
+  place-apart w e = omega (arith, first-bytes, place-within file bytes words, ap (λ (y : Values). y .place) e)
 
-  by-verdict : (x : Phrase) → reading file ≡ ok x → (v : Verdict) → verdict (ok x) words ≡ v → numberOf (toldFor v) ≡ 0 → Playable (ok x) v
-  by-verdict x e (accepted bounds c) q z = soundness (jobsOf x) (x .cores) (capacityFor x words) (can-analyse file bytes x e .wellFormed) bounds c q
-  by-verdict x e (refused n at) q z = omega (arith, refused-within (jobsOf x) (x .cores) (capacityFor x words) n at q)
-  by-verdict x e (late i f l) q z = omega arith
+  by-verdict : (x : Phrase) (v : Verdict) → verdict (ok x) words ≡ v → numberOf (valuesOf (answerFor v)) ≡ 0 → answerFor v ≡ Accepted
+  by-verdict x (accepted bounds c) q z = refl
+  by-verdict x (refused n at) q z = absurd (omega (arith, refused-within (jobsOf x) (x .cores) (capacityFor x words) n at q))
+  by-verdict x (late i f l) q z = absurd (omega arith)
 
-  by-outcome : (o : Outcome Phrase) → reading file ≡ o → numberFor o words ≡ 0 → Playable o (verdict o words)
-  by-outcome (ok x) e z = by-verdict x e (verdict (ok x) words) refl z
-  by-outcome (unread n at) e z = omega (arith, unread-within file n at e)
+  by-outcome : (o : Outcome Phrase) → reading file ≡ o → numberFor o words ≡ 0 → answerFor (verdict o words) ≡ Accepted
+  by-outcome (ok x) e z = by-verdict x (verdict (ok x) words) refl z
+  by-outcome (unread n at) e z = absurd (omega (arith, unread-within file n at e))
 
-  pub playable : numberFor (reading file) words ≡ 0 → Playable (reading file) (verdict (reading file) words)
-  playable z = by-outcome (reading file) refl z
+  -- 0 says accepted and nothing else.
+  pub zero-accepts : numberFor (reading file) words ≡ 0 → answerFor (verdict (reading file) words) ≡ Accepted
+  zero-accepts z = by-outcome (reading file) refl z

@@ -1,3 +1,3 @@
 -- What a host gets.
 pub mod Host
-pub mod Examples
+pub mod examples

@@ -1,32 +1,30 @@
 // What a host program in C calls: check and report, over a lent table or a table of their own.
 ghost use mathlib.Core.Path.{_≡_};
 ghost use Prim.Native.Nat.{_<_};
-ghost use lib.ListN.{length, drop};
+ghost use lib.ListN.{length};
 ghost use Rattle.format.specs.Reading.{reading};
-ghost use Rattle.checker.specs.Checking.{verdict, usedWords, toldOf};
+ghost use Rattle.checker.specs.Checking.{verdict, TableKept, valuesOf, Playable};
 ghost use Rattle.report.specs.Report.{textOf, delivered, lengthIn};
-ghost use Rattle.phrase.specs.Host.{tableWords, places, numberOf, numberFor, Playable};
+ghost use Rattle.phrase.specs.Host.{tableWords, places, numberOf, numberFor};
 use checker::Answer;
 use checker::check;
+use model::refusals::LATE_JOB;
 use report::report;
 
 // The words of a table of its own.
-const TABLE_WORDS: usize = 16384;
+pub const TABLE_WORDS: usize = 16384;
 
 // So many places have numbers of their own beside each refusal number.
 const PLACES: u64 = 4294967296;
 
-// The number of the refusal of a late job.
-const LATE: u64 = 14;
-
 fn number(answer: Answer) -> u64
-    requires { ⌜ toldOf answer .place < places ⌝ }
-    ensures { λ r. ⌜ r ≡ numberOf (toldOf answer) ⌝ }
+    requires { ⌜ valuesOf answer .place < places ⌝ }
+    ensures { λ r. ⌜ r ≡ numberOf (valuesOf answer) ⌝ }
 {
     match answer {
         Answer::Accepted => 0,
         Answer::Refused(number, place) => number as u64 * PLACES + place as u64,
-        Answer::Late(job, _, _) => LATE * PLACES + job as u64,
+        Answer::Late(job, _, _) => LATE_JOB as u64 * PLACES + job as u64,
     }
 }
 
@@ -34,8 +32,7 @@ fn number(answer: Answer) -> u64
 #[no_mangle]
 pub extern "C" fn phrase_check_with(file: &[u8], table: &mut [u32]) -> u64
     ensures number { λ r. ⌜ r ≡ numberFor (reading (now (file .entry))) (length (now (table .entry))) ⌝ }
-    ensures table { λ _. ⌜ drop (usedWords (reading (now (file .entry))) (length (now (table .entry)))) (now (table .exit))
-        ≡ drop (usedWords (reading (now (file .entry))) (length (now (table .entry)))) (now (table .entry)) ⌝ }
+    ensures table { λ _. ⌜ TableKept (reading (now (file .entry))) (now (table .entry)) (now (table .exit)) ⌝ }
     ensures runs { λ r. ⌜ (r ≡ 0 → Playable (reading (now (file .entry)))
         (verdict (reading (now (file .entry))) (length (now (table .entry))))) ⌝ }
 {
@@ -61,8 +58,7 @@ pub extern "C" fn phrase_report_with(file: &[u8], table: &mut [u32], text: &mut 
     ensures short { λ r. ⌜ (r ≡ 0 → length (now (text .entry)) < length (textOf (reading (now (file .entry))) (length (now (table .entry))))) ⌝ }
     ensures text { λ _. ⌜ now (text .exit)
         ≡ delivered (textOf (reading (now (file .entry))) (length (now (table .entry)))) (now (text .entry)) ⌝ }
-    ensures table { λ _. ⌜ drop (usedWords (reading (now (file .entry))) (length (now (table .entry)))) (now (table .exit))
-        ≡ drop (usedWords (reading (now (file .entry))) (length (now (table .entry)))) (now (table .entry)) ⌝ }
+    ensures table { λ _. ⌜ TableKept (reading (now (file .entry))) (now (table .entry)) (now (table .exit)) ⌝ }
 {
     let reported = report(file, table, text);
     reported.length

@@ -1,12 +1,11 @@
 // Checks the phrase file on standard input and prints the report.
 use libc::STDIN_FILENO;
 use libc::STDOUT_FILENO;
+use phrase::TABLE_WORDS;
 use report::report;
 
 // The longest input that is read.
 const MOST_INPUT: usize = 4096;
-
-const TABLE_WORDS: usize = 16384;
 
 const TEXT_BYTES: usize = 32768;
 

@@ -7,25 +7,31 @@ use native.Mathlib.Nat.{zero-add}
 use native.Mathlib.Omega.{arith}
 use lib.ListN.{length}
 use borrow.Author.Tests.{le-leb, lt-leb, leb-true, leb-false}
+use Rattle.model.specs.Refusals.{shortBuffer}
 use Rattle.words.specs.internal.Placed.{placed}
-use Rattle.checker.specs.Checking.{refusing, Told, toldOf}
-use Rattle.checker.specs.declared.Answer.the-variants.{Accepted, Refused}
-use Rattle.checker.specs.declared.Checked.{Checked}
+use Rattle.checker.specs.Checking.{refusing}
+use Rattle.checker.specs.declared.result.Answer.{Answer}
+use Rattle.checker.specs.declared.result.Answer.the-variants.{Accepted, Refused}
+use Rattle.checker.specs.declared.result.Checked.{Checked}
 use Rattle.report.specs.Report.{fits, delivered, lengthIn, reportedIn}
 use Rattle.report.specs.declared.Reported.{Reported}
 
 module _ (text buffer : List ℕ) where
+  -- A buffer that is shorter than the text is left as it was.
   pub short-left : length buffer < length text → buffer ≡ delivered text buffer
   short-left h = rw (lt-leb (length text) (length buffer) h)
 
+  -- Its result is refusal 15 with no length.
   pub short-reported : (r : Checked) → length buffer < length text
-      → _≡_ {A = Reported} (record { checked = refusing (Refused 15 0); length = 0 }) (reportedIn r text buffer)
+      → _≡_ {A = Reported} (record { checked = refusing (Refused shortBuffer 0); length = 0 }) (reportedIn r text buffer)
   short-reported r h = rw (lt-leb (length text) (length buffer) h)
 
+  -- A text that has room is written from the start of the buffer on.
   pub whole-placed : length text ≤ length buffer → placed buffer 0 text ≡ delivered text buffer
   unfolding placed
   whole-placed h = rw (le-leb (length text) (length buffer) h, zero-add)
 
+  -- Its result is the check's, with its length.
   pub whole-reported : (r : Checked) → length text ≤ length buffer → _≡_ {A = Reported} (record { checked = r; length = length text }) (reportedIn r text buffer)
   whole-reported r h = rw (le-leb (length text) (length buffer) h)
 
@@ -33,6 +39,7 @@ module _ (text buffer : List ℕ) where
   in-buffer true e = leb-true (length text) (length buffer) e
   in-buffer false e = omega arith
 
+  -- The length that is reported is at most that of the buffer.
   pub length-within : (r : Checked) (s : Reported) → s ≡ reportedIn r text buffer → s .length ≤ length buffer
   length-within r s e = omega (arith, ap (λ (y : Reported). y .length) e, in-buffer (fits text buffer) refl)
 
@@ -47,12 +54,12 @@ module _ (text buffer : List ℕ) where
 -- ---- the result
 
 module _ (r : Checked) where
-  pub reported-told : (w : Told) (b : Bool) → toldOf (r .answer) ≡ w
-      → toldOf (cond b r (refusing (Refused 15 0)) .answer) ≡ cond b w (record { number = 15; place = 0; earliest = 0; latest = 0 })
-  reported-told w true e = e
-  reported-told w false e = refl
+  -- a report's answer is that of the check, or refusal 15
+  pub reported-answer : (a : Answer) (b : Bool) → r .answer ≡ a → cond b r (refusing (Refused shortBuffer 0)) .answer ≡ cond b a (Refused shortBuffer 0)
+  reported-answer a true e = e
+  reported-answer a false e = refl
 
   -- a report that accepts has the result of the check
-  pub reported-accepted : (s : Checked) (b : Bool) → s ≡ cond b r (refusing (Refused 15 0)) → s .answer ≡ Accepted → s ≡ r
+  pub reported-accepted : (s : Checked) (b : Bool) → s ≡ cond b r (refusing (Refused shortBuffer 0)) → s .answer ≡ Accepted → s ≡ r
   reported-accepted s true p a = p
   reported-accepted s false p a = absurd (let z : _≡_ {A = ℕ} 0 1 = cc (ap (λ (y : Checked). y .answer) p) in omega arith)

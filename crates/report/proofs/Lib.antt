@@ -1,5 +1,3 @@
--- Laws of the lines of a report and of their lengths, of its delivery, and of its text.
-pub mod LineLengths
-pub mod Series
+-- Laws of the delivery of a report, and of its text.
 pub mod Delivery
 pub mod Texts

@@ -1,101 +1,133 @@
--- The text that is composed from a check's result and the rows of the jobs is the report's. Assumes nothing.
+-- The text that is composed from a check's result and the table of its phrase is the report's. Assumes nothing.
 use Prim.Native.Nat.{ℕ, _-_, _≤_, _<_}
-use mathlib.Core.Path.{_≡_, refl, sym, ap, subst₂}
+use mathlib.Core.Path.{_≡_, refl, sym, ap, _∙_, subst₂}
 use mathlib.Core.List.{List, _++_}
 use native.Mathlib.Omega.{arith}
 use lib.ListN.{getD, length, length-append}
 use Rattle.model.specs.Limits.{mostJobs}
-use Rattle.model.specs.Jobs.{Job, job}
+use Rattle.model.specs.Jobs.{Job, noJob, job}
 use Rattle.model.specs.States.{Range, empty, earliest, latest}
 use Rattle.model.specs.Exploration.{accepted, refused, late}
 use Rattle.model.specs.Exploration.{Verdict}
-use Rattle.jobs.specs.Rows.{word, mostExecutionAt, jobAt}
-use Rattle.format.specs.Phrase.{Phrase, jobsOf}
-use Rattle.format.specs.Reading.{Outcome, ok, reading}
-use Rattle.format.specs.Reading.{refused as unread}
-use Rattle.format.specs.Rows.{jobTable}
-use Rattle.format.specs.Valid.{AreBytes}
-use Rattle.format.specs.Analysable.{Analysable}
+use Rattle.model.proofs.Folds.{sum-ext}
+use Rattle.words.proofs.Maps.{getD-map}
+use Rattle.format.specs.Phrase.{Phrase}
+use Rattle.format.specs.Jobs.{noNote, note, struck, jobOf, jobsOf}
+use Rattle.format.specs.Outcome.{Outcome, ok}
+use Rattle.format.specs.Reading.{reading}
+use Rattle.format.specs.Outcome.{refused as unread}
+use Rattle.format.specs.Bytes.{AreBytes}
+use Rattle.format.specs.Valid.{Valid}
+use Rattle.format.proofs.Theorems.{sound}
+use Rattle.format.proofs.Jobs.{analysable}
+use Rattle.rows.specs.internal.BellRow.{mostExecutionWord, bellRow}
+use Rattle.rows.specs.internal.NoteRow.{keyWord, deadlineWord, struckWord, noteRowOn}
+use Rattle.rows.specs.internal.PhraseTable.{phraseTable, bellWord, noteWord}
+use Rattle.rows.proofs.NoteRow.{row-words}
+use Rattle.rows.proofs.PhraseTable.{few-bells, few-notes, few-listed, struck-below, bell-word, note-word}
+use Rattle.jobs.proofs.JobRow.{jobs-length}
 use Rattle.checker.specs.Checking.{verdict, perJob, resultOf, checkedOf}
-use Rattle.checker.specs.declared.Checked.{Checked}
-use Rattle.checker.proofs.Handover.{jobs-length, key-of, job-of}
+use Rattle.checker.specs.declared.result.Checked.{Checked}
 use Rattle.checker.proofs.PerJob.{per-job-at}
-use Rattle.checker.proofs.Promise.{can-analyse}
-use Rattle.report.specs.Lines.{labelled, strokeLine, lines, acceptedLine, refusedLine, lateLine}
+use Rattle.lines.specs.Lines.{labelled, strokeLine, lines, acceptedLine, refusedLine, lateLine}
 use Rattle.report.specs.Report.{strokeOf, holdOf, textFor, textOf}
-use Rattle.report.specs.Rows.{strokeIn, holdIn, Keyed, acceptedText, textIn}
-use Rattle.report.proofs.Series.{lines-ext, sum-ext}
+use Rattle.report.specs.internal.Rows.{strokeIn, holdIn, Keyed, acceptedText, textIn}
+use Rattle.lines.proofs.Series.{lines-ext}
 
--- what is asked of a result and of rows before they are composed, and what comes of it
-pub record Composed (r : Checked) (rows text : List ℕ) : Type 0 where
+-- what is asked of a result and of the table of its phrase before they are composed, and what comes of it
+pub record Composed (r : Checked) (t text : List ℕ) : Type 0 where
   pub few : r .jobs ≤ mostJobs
-  pub keyed : Keyed rows (r .jobs)
-  pub text-is : textIn (r .answer) r rows ≡ text
+  pub keyed : Keyed t (r .jobs)
+  pub text-is : textIn (r .answer) r t ≡ text
 
-module _ (x : Phrase) (can : Analysable x) where
+module _ (x : Phrase) (v : Valid x) where
   abbrev js : List Job
   js = jobsOf x
 
-  abbrev rows : List ℕ
-  rows = jobTable (ok x)
+  abbrev t : List ℕ
+  t = phraseTable (ok x)
+
+  few-jobs : length js ≤ mostJobs
+  few-jobs = omega (arith, jobs-length x, few-notes x v)
 
   module _ (i : ℕ) (b : i < length js) where
     here : i < length (x .notes)
-    here = omega (arith, jobs-length x can)
+    here = omega (arith, jobs-length x)
 
-    row-is : jobAt rows i ≡ job js i
-    row-is = job-of x can i here
+    job-is : job js i ≡ jobOf (x .bells) (note x i)
+    job-is = getD-map (jobOf (x .bells)) (x .notes) i noNote noJob here
+
+    key-is : noteWord t i keyWord ≡ note x i .key
+    unfolding noteRowOn
+    key-is = note-word x v i keyWord here (omega arith)
+
+    bell-is : noteWord t i struckWord ≡ struck (x .bells) (note x i)
+    bell-is =
+        note-word x v i struckWord here (omega arith)
+        ∙ ap (λ (r : List ℕ). getD r struckWord 0) (row-words (struck (x .bells) (note x i)) (note x i) (few-listed x v i here))
+
+    deadline-is : noteWord t i deadlineWord ≡ note x i .deadline
+    unfolding noteRowOn
+    deadline-is = note-word x v i deadlineWord here (omega arith)
+
+    execution-is : bellWord t (noteWord t i struckWord) mostExecutionWord ≡ job js i .mostExecution
+    unfolding bellRow
+    execution-is =
+        ap (λ (n : ℕ). bellWord t n mostExecutionWord) bell-is
+        ∙ bell-word x v (struck (x .bells) (note x i)) mostExecutionWord (struck-below x v i here) (omega arith)
+        ∙ ap (λ (j : Job). j .mostExecution) (sym job-is)
 
   module _ (bounds : List Range) (c : ℕ) where
     abbrev result : Checked
     result = resultOf js (accepted bounds c)
 
-    stroke-is : (i : ℕ) → i < length js → strokeIn rows (result .earliest) (result .latest) (result .best) (result .worst) i ≡ strokeOf x bounds i
-    unfolding jobAt
+    stroke-is : (i : ℕ) → i < length js → strokeIn t (result .earliest) (result .latest) (result .best) (result .worst) i ≡ strokeOf x bounds i
     stroke-is i b =
-        let at : (f : ℕ → ℕ) → getD (perJob (length js) f) i 0 ≡ f i = λ f. per-job-at (length js) f (can .jobCount) i b in
-        let key = key-of x can i (here i b) in
-        let row = row-is i b in
+        let at : (f : ℕ → ℕ) → getD (perJob (length js) f) i 0 ≡ f i = λ f. per-job-at (length js) f few-jobs i b in
+        let key = key-is i b in
+        let bell = bell-is i b ∙ ap (λ (j : Job). j .bell) (sym (job-is i b)) in
+        let deadline = deadline-is i b ∙ ap (λ (j : Job). j .deadline) (sym (job-is i b)) in
         λ n. record {
           number = i;
           key = key n;
-          bell = row n .bell;
+          bell = bell n;
           earliest = at (λ j. earliest (getD bounds j empty)) n;
           latest = at (λ j. latest (getD bounds j empty)) n;
           best = at (λ j. earliest (getD bounds j empty) - job js j .earliestRelease) n;
           worst = at (λ j. latest (getD bounds j empty) - job js j .earliestRelease) n;
-          deadline = row n .deadline;
+          deadline = deadline n;
         }
 
-    hold-is : holdIn rows (length js) ≡ holdOf x
-    unfolding jobAt
-    hold-is = sum-ext (λ i. word rows i mostExecutionAt) (λ i. job js i .mostExecution) (length js) (λ i b. ap (λ (j : Job). j .mostExecution) (row-is i b))
+    hold-is : holdIn t (length js) ≡ holdOf x
+    hold-is =
+        sum-ext (λ i. bellWord t (noteWord t i struckWord) mostExecutionWord) (λ i. job js i .mostExecution) (length js) (λ i b. execution-is i b)
 
-    accepted-is : acceptedText result rows ≡ textFor x (accepted bounds c)
+    accepted-is : acceptedText result t ≡ textFor x (accepted bounds c)
     accepted-is =
         let p =
-        lines-ext (λ i. strokeLine (strokeIn rows (result .earliest) (result .latest) (result .best) (result .worst) i)) (λ i. strokeLine (strokeOf x bounds i))
+        lines-ext (λ i. strokeLine (strokeIn t (result .earliest) (result .latest) (result .best) (result .worst) i)) (λ i. strokeLine (strokeOf x bounds i))
         (length js) (λ i b. ap strokeLine (stroke-is i b)) in
         λ n. p n ++ acceptedLine (length js) c (hold-is n)
 
-  composed-for : (v : Verdict) → Composed (resultOf js v) rows (textFor x v)
-  composed-for (accepted bounds c) =
-      record {
-        few = can .jobCount;
-        keyed = λ i b. rw (key-of x can i (here i b)) (can .keys i b);
-        text-is = accepted-is bounds c;
-      }
+  keyed : Keyed t (length js)
+  keyed i b =
+      let low = analysable x v .keys i b in
+      (omega (arith, key-is i b, low), omega (arith, bell-is i b, struck-below x v i (here i b), few-bells x v))
+
+  composed-for : (w : Verdict) → Composed (resultOf js w) t (textFor x w)
+  composed-for (accepted bounds c) = record { few = few-jobs; keyed = keyed; text-is = accepted-is bounds c }
   composed-for (refused n at) = record { few = omega arith; keyed = λ i b. absurd (omega arith); text-is = refl }
   composed-for (late i e f) = record { few = omega arith; keyed = λ j b. absurd (omega arith); text-is = refl }
 
 module _ (file : List ℕ) (bytes : AreBytes file) (words : ℕ) where
-  composed-from : (o : Outcome Phrase) → reading file ≡ o → Composed (checkedOf o words) (jobTable o) (textOf o words)
-  composed-from (ok x) e = composed-for x (can-analyse file bytes x e) (verdict (ok x) words)
+  composed-from : (o : Outcome Phrase) → reading file ≡ o → Composed (checkedOf o words) (phraseTable o) (textOf o words)
+  composed-from (ok x) e = composed-for x (sound file x bytes e) (verdict (ok x) words)
   composed-from (unread n at) e = record { few = omega arith; keyed = λ i b. absurd (omega arith); text-is = refl }
 
-  pub composed : (r : Checked) (rows : List ℕ) → r ≡ checkedOf (reading file) words → rows ≡ jobTable (reading file)
-      → Composed r rows (textOf (reading file) words)
-  composed r rows p q = subst₂ (λ (s : Checked) (l : List ℕ). Composed s l (textOf (reading file) words)) (sym p) (sym q) (composed-from (reading file) refl)
+  -- A check's result and the table that it leaves can be composed, to the report's text.
+  pub composed : (r : Checked) (t : List ℕ) → r ≡ checkedOf (reading file) words → t ≡ phraseTable (reading file)
+      → Composed r t (textOf (reading file) words)
+  composed r t p q = subst₂ (λ (s : Checked) (l : List ℕ). Composed s l (textOf (reading file) words)) (sym p) (sym q) (composed-from (reading file) refl)
 
 -- ---- no text is empty
 
@@ -108,6 +140,7 @@ text-for-long x (accepted bounds c) =
 text-for-long x (refused n at) = omega arith
 text-for-long x (late i e f) = omega arith
 
+-- Every text has a byte.
 pub text-long : (o : Outcome Phrase) (words : ℕ) → 1 ≤ length (textOf o words)
 unfolding labelled refusedLine
 text-long (ok x) words = text-for-long x (verdict (ok x) words)

@@ -1,26 +1,30 @@
 -- The report of a phrase file: its text, what it leaves in a buffer, and its result. Assumes nothing.
-use Prim.Native.Nat.{ℕ, zero, suc, _+_, _-_}
+use Prim.Native.Nat.{ℕ, _-_}
 use mathlib.Core.Bool.{Bool, cond}
 use mathlib.Core.List.{List, _++_}
 use lib.Dec.{leb}
 use lib.ListN.{getD, length, drop}
+use Rattle.model.specs.Folds.{sum}
+use Rattle.model.specs.Refusals.{shortBuffer}
 use Rattle.model.specs.Jobs.{job}
 use Rattle.model.specs.States.{Range, empty, earliest, latest}
 use Rattle.model.specs.Exploration.{accepted, refused, late}
 use Rattle.model.specs.Exploration.{Verdict}
-use Rattle.format.specs.Phrase.{Phrase, note, jobsOf}
-use Rattle.format.specs.Reading.{Outcome, ok}
-use Rattle.format.specs.Reading.{refused as unread}
-use Rattle.checker.specs.Checking.{verdict, refusing, checkedOf, Told, toldFor}
-use Rattle.checker.specs.declared.Answer.the-variants.{Refused}
-use Rattle.checker.specs.declared.Checked.{Checked}
-use Rattle.report.specs.Lines.{strokeLine, lines, acceptedLine, refusedLine, lateLine}
-use Rattle.report.specs.declared.lines.Stroke.{Stroke}
+use Rattle.format.specs.Phrase.{Phrase}
+use Rattle.format.specs.Jobs.{note, jobsOf}
+use Rattle.format.specs.Outcome.{Outcome, ok}
+use Rattle.format.specs.Outcome.{refused as unread}
+use Rattle.checker.specs.Checking.{verdict, refusing, checkedOf, answerFor}
+use Rattle.checker.specs.declared.result.Answer.{Answer}
+use Rattle.checker.specs.declared.result.Answer.the-variants.{Refused}
+use Rattle.checker.specs.declared.result.Checked.{Checked}
+use Rattle.lines.specs.Lines.{strokeLine, lines, acceptedLine, refusedLine, lateLine}
+use Rattle.lines.specs.declared.lines.Stroke.{Stroke}
 use Rattle.report.specs.declared.Reported.{Reported}
 
 -- ---- the text
 
--- What the line of a stroke tells: its number, the key of its note, its bell, the bounds of its finish time (its ends) and of its response, which is the
+-- What the line of a stroke shows: its number, the key of its note, its bell, the bounds of its finish time (its ends) and of its response, which is the
 -- finish time minus the earliest release (ra), and its deadline.
 abbrev pub strokeOf : Phrase → List Range → ℕ → Stroke
 strokeOf x bounds i =
@@ -35,11 +39,6 @@ strokeOf x bounds i =
       deadline = job (jobsOf x) i .deadline;
     }
 
--- f 0 + .. + f (n - 1)
-unfoldable pub sum : (ℕ → ℕ) → ℕ → ℕ
-sum f zero = 0
-sum f (suc n) = sum f n + f n
-
 -- the longest executions (cb) of all strokes together
 abbrev pub holdOf : Phrase → ℕ
 holdOf x = sum (λ i. job (jobsOf x) i .mostExecution) (length (jobsOf x))
@@ -50,6 +49,7 @@ textFor x (accepted bounds c) = lines (λ i. strokeLine (strokeOf x bounds i)) (
 textFor x (refused n at) = refusedLine n at
 textFor x (late i e f) = lateLine i e f
 
+-- The text of a report: a file that was not read has the line of its refusal.
 abbrev pub textOf : Outcome Phrase → ℕ → List ℕ
 textOf (ok x) words = textFor x (verdict (ok x) words)
 textOf (unread n at) words = refusedLine n at
@@ -70,12 +70,12 @@ lengthIn text buffer = cond (fits text buffer) (length text) 0
 
 -- The check's result, with the text's length; refusal 15 in its place where the buffer is shorter than the text.
 abbrev pub reportedIn : Checked → List ℕ → List ℕ → Reported
-reportedIn r text buffer = record { checked = cond (fits text buffer) r (refusing (Refused 15 0)); length = lengthIn text buffer }
+reportedIn r text buffer = record { checked = cond (fits text buffer) r (refusing (Refused shortBuffer 0)); length = lengthIn text buffer }
 
+-- The result of a report.
 abbrev pub reportedOf : Outcome Phrase → ℕ → List ℕ → Reported
 reportedOf o words buffer = reportedIn (checkedOf o words) (textOf o words) buffer
 
--- what document 01 writes of it
-abbrev pub toldIn : Outcome Phrase → ℕ → List ℕ → Told
-toldIn o words buffer =
-    cond (fits (textOf o words) buffer) (toldFor (verdict o words)) (record { number = 15; place = 0; earliest = 0; latest = 0 })
+-- its answer: the verdict's, or refusal 15
+abbrev pub answerIn : Outcome Phrase → ℕ → List ℕ → Answer
+answerIn o words buffer = cond (fits (textOf o words) buffer) (answerFor (verdict o words)) (Refused shortBuffer 0)

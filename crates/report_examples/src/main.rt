@@ -2,41 +2,34 @@
 // and how long the file is. Prints each text and its length, and whether the bytes of the buffer after it, which held something before, are unchanged;
 // then the answer with all that it carries, and whether the entries beyond its jobs are zero. The first examples are worked by hand, the others are the
 // second checker's; reference/src/bin/vectors.rs has both and makes `stdin` and `stdout`.
+use check::same;
 use libc::STDIN_FILENO;
 use libc::STDOUT_FILENO;
+use phrase::TABLE_WORDS;
+use printing::NextExample;
+use printing::next_example;
 use printing::print;
+use printing::print_rest;
 use printing::show_result;
-use printing::two_bytes;
 use report::report;
-
-const TABLE_WORDS: usize = 16384;
 
 const TEXT_BYTES: usize = 8192;
 // What every byte of the buffer holds before a report: in no text.
 const BEFORE: u8 = 165;
-// The bytes before a file.
-const HEAD: usize = 6;
 
-fn show_rest(text: &[u8], from: usize) {
-    let mut i = from;
-    while i < text.len() {
-        if text[i] != BEFORE {
-            print(b", rest changed\n");
-            return;
-        }
-        i += 1;
-    }
-    print(b", rest unchanged\n");
-}
-
-fn show_text(text: &[u8], end: usize) {
+// The text up to its end, and whether what follows is as it was before.
+fn show_text(text: &[u8], before: &[u8], end: usize) {
     if text.len() < end {
         return;
     }
-    print(&text[..end]);
+    if before.len() < end {
+        return;
+    }
+    print(&text[0..end]);
     print(b"length ");
     io::print_decimal(STDOUT_FILENO, end as u64);
-    show_rest(text, end);
+    print(b", ");
+    print_rest(same(&text[end..], &before[end..]));
 }
 
 // Reports over the first words of the table and the first bytes of the text.
@@ -47,8 +40,9 @@ fn show_over(file: &[u8], table: &mut [u32], words: usize, text: &mut [u8], byte
     if text.len() < bytes {
         return;
     }
+    let before = [BEFORE; TEXT_BYTES];
     let reported = report(file, &mut table[0..words], &mut text[0..bytes]);
-    show_text(text, reported.length);
+    show_text(text, &before, reported.length);
     show_result(reported.checked);
 }
 
@@ -60,16 +54,14 @@ fn show(file: &[u8], words: usize, bytes: usize) {
 
 fn show_all(input: &[u8]) {
     let mut at = 0;
-    while HEAD <= input.len() - at {
-        let words = two_bytes(input, at);
-        let bytes = two_bytes(input, at + 2);
-        let size = two_bytes(input, at + 4);
-        let start = at + HEAD;
-        if input.len() - start < size {
+    loop {
+        let next = next_example(input, at);
+        let NextExample::Found(example) = next else {
             return;
-        }
-        let end = start + size;
-        show(&input[start..end], words, bytes);
+        };
+        let start = example.start;
+        let end = example.end;
+        show(&input[start..end], example.first, example.second);
         at = end;
     }
 }

@@ -19,7 +19,7 @@ use Rattle.model.proofs.Booleans.{and-left}
 use Rattle.model.proofs.Starts.{candidate-out}
 use Rattle.model.proofs.Bounds.{earliest-start-up-to, latest-start-up-to, successor-bounded}
 use Rattle.model.specs.internal.Bounds.{TimedUpTo, Bounded}
-use Rattle.jobs.specs.Rows.{jobsOf, Setting, word, leastExecutionAt, mostExecutionAt}
+use Rattle.jobs.specs.internal.JobRow.{jobsOfRows, Setting, word, leastExecutionAt, mostExecutionAt}
 use Rattle.jobs.proofs.Jobs.{length-jobs, field-of}
 use Rattle.states.specs.declared.starting.JobStart.{JobStart}
 use Rattle.states.specs.internal.Writing.{afterStart}
@@ -63,23 +63,23 @@ module _ (js : List Job) (σ : State) (i : ℕ) where
 
 module _ (rows : List ℕ) (k m : ℕ) (setting : Setting rows k m) (i : ℕ) (h : i < k) where
   -- the job is one of the list
-  pub inside : i < length (jobsOf rows k)
+  pub inside : i < length (jobsOfRows rows k)
   inside = omega (arith, length-jobs rows k)
 
   -- a job takes time
-  pub most-positive : 1 ≤ job (jobsOf rows k) i .mostExecution
+  pub most-positive : 1 ≤ job (jobsOfRows rows k) i .mostExecution
   most-positive =
-      let least : job (jobsOf rows k) i .leastExecution ≡ word rows i leastExecutionAt = field-of rows k i leastExecutionAt h (omega arith) in
+      let least : job (jobsOfRows rows k) i .leastExecution ≡ word rows i leastExecutionAt = field-of rows k i leastExecutionAt h (omega arith) in
       omega (arith, least, setting .executions i h .0, setting .timed .executions i inside)
 
   -- the finish times of an edge are far below what a word holds
-  pub finishes-fit : (σ : State) (s t : ℕ) → Bounded (jobsOf rows k) latestTime σ → edgeOf (jobsOf rows k) σ i ≡ Starts s t
-      → (s + job (jobsOf rows k) i .leastExecution ≤ latestTime + longestExecution) × (t + job (jobsOf rows k) i .mostExecution ≤ latestTime + longestExecution)
+  pub finishes-fit : (σ : State) (s t : ℕ) → Bounded (jobsOfRows rows k) latestTime σ → edgeOf (jobsOfRows rows k) σ i ≡ Starts s t
+      → (s + job (jobsOfRows rows k) i .leastExecution ≤ latestTime + longestExecution) × (t + job (jobsOfRows rows k) i .mostExecution ≤ latestTime + longestExecution)
   finishes-fit σ s t b e =
-      let r = edge-starts (jobsOf rows k) σ i s t e in
-      let most : job (jobsOf rows k) i .mostExecution ≡ word rows i mostExecutionAt = field-of rows k i mostExecutionAt h (omega arith) in
-      let early : earliestStart (jobsOf rows k) σ i ≤ latestTime = earliest-start-up-to (jobsOf rows k) latestTime (setting .timed) σ b i inside in
-      let late : latestStart (jobsOf rows k) σ i ≤ latestTime = latest-start-up-to (jobsOf rows k) latestTime (setting .timed) σ b i in (
+      let r = edge-starts (jobsOfRows rows k) σ i s t e in
+      let most : job (jobsOfRows rows k) i .mostExecution ≡ word rows i mostExecutionAt = field-of rows k i mostExecutionAt h (omega arith) in
+      let early : earliestStart (jobsOfRows rows k) σ i ≤ latestTime = earliest-start-up-to (jobsOfRows rows k) latestTime (setting .timed) σ b i inside in
+      let late : latestStart (jobsOfRows rows k) σ i ≤ latestTime = latest-start-up-to (jobsOfRows rows k) latestTime (setting .timed) σ b i in (
         omega (arith, r .1, early, most, setting .executions i h .1, setting .timed .executions i inside),
         omega (arith, r .2, late, most, setting .executions i h .1),
       )

@@ -3,7 +3,7 @@ ghost use mathlib.Core.Path.{_≡_};
 ghost use Prim.Native.Nat.{_≤_, _<_};
 ghost use lib.ListN.{length};
 ghost use Rattle.model.specs.Exploration.{addEdge, tryJob, tryJobs, stateWords};
-ghost use Rattle.jobs.specs.Rows.{Setting};
+ghost use Rattle.jobs.specs.internal.JobRow.{Setting};
 ghost use Rattle.states.specs.internal.Slots.{statesOf, Sound};
 ghost use Rattle.edges.specs.internal.Edges.{edgeOf, candidates, PredecessorSets};
 ghost use Rattle.steps.specs.internal.Observed.{observedOf, Observed};

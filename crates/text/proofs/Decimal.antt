@@ -28,10 +28,12 @@ enough zero e n hd he = rw (lt-ltb n 10 (omega arith), one zero n, one e n)
 enough (suc d) zero n hd he = rw (lt-ltb n 10 (omega arith), one (suc d) n, one zero n)
 enough (suc d) (suc e) n hd he = next d e n (ltb n 10) (enough d e (n / 10) (omega arith) (omega arith))
 
+-- A number below ten is its digit.
 pub decimal-low : (n : ℕ) → n < 10 → decimal n ≡ digit n ∷ []
 unfolding decimal
 decimal-low n h = rw (lt-ltb n 10 h) (one n n)
 
+-- Any other is the number without its last digit, and that digit.
 pub decimal-high : (n : ℕ) → 10 ≤ n → decimal n ≡ decimal (n / 10) ++ (digit n ∷ [])
 unfolding decimal decimalWithin
 decimal-high n h =

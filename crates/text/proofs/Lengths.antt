@@ -12,12 +12,15 @@ use Rattle.text.specs.Decimal.{digit, decimal}
 use Rattle.text.specs.Keys.{names, keyText}
 use Rattle.text.proofs.Decimal.{decimal-low, decimal-high}
 
+-- A number below ten has one digit.
 pub length-low : (n : ℕ) → n < 10 → length (decimal n) ≡ 1
 length-low n h = rw (decimal-low n h)
 
+-- Any other has one more than the number without its last digit.
 pub length-high : (n : ℕ) → 10 ≤ n → length (decimal n) ≡ length (decimal (n / 10)) + 1
 length-high n h = rw (decimal-high n h) (length-append (decimal (n / 10)) (digit n ∷ []))
 
+-- A number from ten thousand on has four digits more than its ten-thousandth.
 pub length-ten-thousand : (n : ℕ) → 10000 ≤ n → length (decimal n) ≡ length (decimal (n / 10000)) + 4
 length-ten-thousand n h =
     let e : n / 10 / 10 / 10 / 10 ≡ n / 10000 = omega arith in
@@ -49,12 +52,15 @@ at-most [] i = omega arith
 at-most (x ∷ l) zero = omega arith
 at-most (x ∷ l) (suc i) = omega (arith, at-most l i)
 
+-- A name of a note has at most two bytes.
 pub name-length : (i : ℕ) → length (getD names i []) ≤ 2
 name-length = at-most names
 
+-- The name of a key is as long as its note and its octave.
 pub key-parts : (key : ℕ) → length (keyText key) ≡ length (getD names (key % 12) []) + length (decimal (key / 12 - 1))
 unfolding keyText
 key-parts key = length-append (getD names (key % 12) []) (decimal (key / 12 - 1))
 
+-- The name of a key of 32 bits has at most eleven bytes.
 pub key-length : (key : ℕ) → key < 4294967296 → length (keyText key) ≤ 11
 key-length key h = omega (arith, key-parts key, name-length (key % 12), decimal-length 8 (key / 12 - 1) (omega arith))

@@ -5,7 +5,7 @@ use mathlib.Core.List.{List, _++_}
 use native.Mathlib.Omega.{arith}
 use lib.ListN.{length, length-append}
 use Rattle.words.proofs.Placing.{placed-append, length-placed}
-use Rattle.text.specs.Written.{Room, Written}
+use Rattle.text.specs.internal.Written.{Room, Written}
 
 -- a place from which on there is room lies in the buffer, or at its end
 pub within : {before : List ℕ} {at : ℕ} {s : List ℕ} → Room before at s → at ≤ length before

@@ -1,5 +1,5 @@
--- Text in a buffer.
+-- Text: bytes, decimal numbers, names of keys.
 pub mod Bytes
 pub mod Decimal
 pub mod Keys
-pub mod Written
+pub mod internal

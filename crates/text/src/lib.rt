@@ -5,7 +5,7 @@ ghost use Prim.Native.Nat.{_+_, _%_, _≤_, _<_};
 ghost use lib.ListN.{getD, length, take};
 ghost use Rattle.text.specs.Decimal.{digit, decimal};
 ghost use Rattle.text.specs.Keys.{names, keyText};
-ghost use Rattle.text.specs.Written.{Room, Written};
+ghost use Rattle.text.specs.internal.Written.{Room, Written};
 
 pub fn put_bytes(buffer: &mut [u8], at: usize, s: &[u8]) -> usize
     requires { ⌜ Room (now buffer) at (now s) ⌝ }

@@ -3,3 +3,4 @@ pub mod Tabulate
 pub mod Padded
 pub mod Parts
 pub mod Placing
+pub mod Maps

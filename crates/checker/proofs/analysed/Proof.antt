@@ -4,7 +4,7 @@ use lib.ListN.{length}
 use denote.Ref.{now}
 use borrow.Author.Needs.{needs}
 use Rattle.model.specs.Exploration.{analysis, capacity}
-use Rattle.jobs.specs.Rows.{jobsOf}
+use Rattle.jobs.specs.internal.JobRow.{jobsOfRows}
 use Rattle.analysis.specs.internal.Answers.{verdictIn}
 use Rattle.analysis.specs.declared.levels.Analysed.{Analysed}
 use Rattle.checker.specs.Checking.{resultOf}
@@ -15,10 +15,10 @@ use Rattle.checker.proofs.analysed.Tie as tie
 abbrev start : tie.After-analyse → tie.Start
 start c = c .before .before .before .before .before
 
--- an outcome says what the definition answers
-told : (c : tie.After-analyse) (o : Analysed) → c .analyse .result ≡ o
-    → let a = start c .args in verdictIn (a .k) o (c .analyse .last .1 .0) ≡ analysis (jobsOf (now (a .rows)) (a .k)) (a .m) (capacity (length (now (a .table))) (a .m) (a .k))
-told c o e = ap (λ (z : Analysed). verdictIn (start c .args .k) z (c .analyse .last .1 .0)) (sym e) ∙ c .analyse .ensures .0
+-- an outcome stands for what the definition answers
+answers : (c : tie.After-analyse) (o : Analysed) → c .analyse .result ≡ o
+    → let a = start c .args in verdictIn (a .k) o (c .analyse .last .1 .0) ≡ analysis (jobsOfRows (now (a .rows)) (a .k)) (a .m) (capacity (length (now (a .table))) (a .m) (a .k))
+answers c o e = ap (λ (z : Analysed). verdictIn (start c .args .k) z (c .analyse .last .1 .0)) (sym e) ∙ c .analyse .ensures .0
 
 slice-aggregate-analyse : tie.Need-slice-aggregate-analyse
 slice-aggregate-analyse c = search needs
@@ -36,7 +36,7 @@ accepting-requires : tie.Need-accepting-requires
 accepting-requires c κs =
     let d = c .before .before .before .before .before .before .before .before in
     let h = start d .pre in
-    all-finished _ (d .analyse .last .1 .0) _ _ _ _ (h .0) (h .1) (d .analyse .ensures .1 .0) (sym (told d _ (c .before .before .before .outcome .given .1)))
+    all-finished _ (d .analyse .last .1 .0) _ _ _ _ (h .0) (h .1) (d .analyse .ensures .1 .0) (sym (answers d _ (c .before .before .before .outcome .given .1)))
 
 enum-known-outcome-2 : tie.Need-enum-known-outcome-2
 enum-known-outcome-2 c = search needs
@@ -59,7 +59,7 @@ same-length c = search needs
 returns : tie.Need-returns
 returns c =
     let d = c .before .before .before .before .before .before .before .before .before in
-    (c .accepting .ensures ∙ ap (resultOf _) (told d _ (c .before .before .before .before .outcome .given .1)), d .analyse .ensures .1 .1)
+    (c .accepting .ensures ∙ ap (resultOf _) (answers d _ (c .before .before .before .before .outcome .given .1)), d .analyse .ensures .1 .1)
 
 same-length-2 : tie.Need-same-length-2
 same-length-2 c = search needs
@@ -67,7 +67,7 @@ same-length-2 c = search needs
 returns-2 : tie.Need-returns-2
 returns-2 c =
     let d = c .before .before .before .before .before .before .before in
-    (c .refused .ensures ∙ ap (resultOf _) (told d _ (c .before .before .outcome2 .given .1)), d .analyse .ensures .1 .1)
+    (c .refused .ensures ∙ ap (resultOf _) (answers d _ (c .before .before .outcome2 .given .1)), d .analyse .ensures .1 .1)
 
 same-length-3 : tie.Need-same-length-3
 same-length-3 c = search needs
@@ -75,7 +75,7 @@ same-length-3 c = search needs
 returns-3 : tie.Need-returns-3
 returns-3 c =
     let d = c .before .before .before .before .before .before .before in
-    (c .refused2 .ensures ∙ ap (resultOf _) (told d _ (c .before .before .outcome3 .given .1)), d .analyse .ensures .1 .1)
+    (c .refused2 .ensures ∙ ap (resultOf _) (answers d _ (c .before .before .outcome3 .given .1)), d .analyse .ensures .1 .1)
 
 pub analysed-spec : {M : Type 1} → statement M
 analysed-spec =

@@ -8,7 +8,7 @@ use Rattle.model.specs.Folds.{all}
 use Rattle.model.specs.Jobs.{predecessors}
 use Rattle.model.specs.States.{latest, finishOf}
 use Rattle.model.specs.Edges.{certainlyReady}
-use Rattle.jobs.specs.Rows.{jobsOf}
+use Rattle.jobs.specs.internal.JobRow.{jobsOfRows}
 use Rattle.states.specs.internal.Slots.{stateOf}
 use Rattle.edges.proofs.Folds.{LargestLeft, largest-next, largest-done}
 use Rattle.edges.proofs.certainly_ready.Statement.{statement}
@@ -16,7 +16,7 @@ use Rattle.edges.proofs.certainly_ready.Tie as tie
 
 abbrev Inv-loop : tie.InvT-loop
 Inv-loop rows k s m i n ready₀ j₀ ready j =
-    LargestLeft all (λ (w : ℕ). latest (finishOf (stateOf m k s) w)) (predecessors (jobsOf rows k) i) (certainlyReady (jobsOf rows k) (stateOf m k s) i) n ready j
+    LargestLeft all (λ (w : ℕ). latest (finishOf (stateOf m k s) w)) (predecessors (jobsOfRows rows k) i) (certainlyReady (jobsOfRows rows k) (stateOf m k s) i) n ready j
 
 abbrev μ-loop : tie.MeasureT-loop
 μ-loop rows k s m i n ready₀ j₀ ready j = n - j
@@ -52,13 +52,13 @@ loop-again c =
     let i = c .before .before .before .before .loop in
     let w = c .before .before .predecessor in
     let x = c .before .latest-finish in
-    largest-next all (λ (w : ℕ). latest (finishOf (stateOf (a .m) (a .k) (now (a .s))) w)) (predecessors (jobsOf (now (a .rows)) (a .k)) (a .i)) (certainlyReady (jobsOf (now (a .rows)) (a .k)) (stateOf (a .m) (a .k) (now (a .s))) (a .i)) (c .before .before .before .before .before .before .predecessor-count .result) (i .ready) (i .j) (x .result) (c .larger .result) (i .inv) (omega arith) (rw (← w .ensures .0) (x .ensures)) (c .larger .ensures)
+    largest-next all (λ (w : ℕ). latest (finishOf (stateOf (a .m) (a .k) (now (a .s))) w)) (predecessors (jobsOfRows (now (a .rows)) (a .k)) (a .i)) (certainlyReady (jobsOfRows (now (a .rows)) (a .k)) (stateOf (a .m) (a .k) (now (a .s))) (a .i)) (c .before .before .before .before .before .before .predecessor-count .result) (i .ready) (i .j) (x .result) (c .larger .result) (i .inv) (omega arith) (rw (← w .ensures .0) (x .ensures)) (c .larger .ensures)
 
 returns : tie.Need-returns Inv-loop μ-loop
 returns c =
     let a = c .before .before .before .before .before .before .args in
     let i = c .before .loop in
-    largest-done all (λ (w : ℕ). latest (finishOf (stateOf (a .m) (a .k) (now (a .s))) w)) (predecessors (jobsOf (now (a .rows)) (a .k)) (a .i)) (certainlyReady (jobsOf (now (a .rows)) (a .k)) (stateOf (a .m) (a .k) (now (a .s))) (a .i)) (c .before .before .before .predecessor-count .result) (i .ready) (i .j) (i .inv) (omega arith)
+    largest-done all (λ (w : ℕ). latest (finishOf (stateOf (a .m) (a .k) (now (a .s))) w)) (predecessors (jobsOfRows (now (a .rows)) (a .k)) (a .i)) (certainlyReady (jobsOfRows (now (a .rows)) (a .k)) (stateOf (a .m) (a .k) (now (a .s))) (a .i)) (c .before .before .before .predecessor-count .result) (i .ready) (i .j) (i .inv) (omega arith)
 
 pub certainly-ready-spec : {M : Type 1} → statement M
 certainly-ready-spec =

@@ -9,7 +9,7 @@ use Rattle.model.specs.Folds.{member}
 use Rattle.model.specs.Jobs.{predecessors}
 use Rattle.model.specs.States.{latest, finishOf}
 use Rattle.model.specs.Edges.{certainlyReadyBeside}
-use Rattle.jobs.specs.Rows.{jobsOf}
+use Rattle.jobs.specs.internal.JobRow.{jobsOfRows}
 use Rattle.states.specs.internal.Slots.{stateOf}
 use Rattle.edges.proofs.Folds.{LargestLeft, largest-next, largest-done}
 use Rattle.edges.proofs.certainly_ready_beside.Statement.{statement}
@@ -17,7 +17,7 @@ use Rattle.edges.proofs.certainly_ready_beside.Tie as tie
 
 abbrev Inv-loop : tie.InvT-loop
 Inv-loop rows k s m i j n ready₀ h₀ ready h =
-    LargestLeft (λ (w : ℕ). not (member w (predecessors (jobsOf rows k) i))) (λ (w : ℕ). latest (finishOf (stateOf m k s) w)) (predecessors (jobsOf rows k) j) (certainlyReadyBeside (jobsOf rows k) (stateOf m k s) i j) n ready h
+    LargestLeft (λ (w : ℕ). not (member w (predecessors (jobsOfRows rows k) i))) (λ (w : ℕ). latest (finishOf (stateOf m k s) w)) (predecessors (jobsOfRows rows k) j) (certainlyReadyBeside (jobsOfRows rows k) (stateOf m k s) i j) n ready h
 
 abbrev μ-loop : tie.MeasureT-loop
 μ-loop rows k s m i j n ready₀ h₀ ready h = n - h
@@ -53,13 +53,13 @@ loop-again c =
     let i = c .before .before .before .before .loop in
     let w = c .before .before .predecessor in
     let x = c .before .latest-finish-beside in
-    largest-next (λ (w : ℕ). not (member w (predecessors (jobsOf (now (a .rows)) (a .k)) (a .i)))) (λ (w : ℕ). latest (finishOf (stateOf (a .m) (a .k) (now (a .s))) w)) (predecessors (jobsOf (now (a .rows)) (a .k)) (a .j)) (certainlyReadyBeside (jobsOf (now (a .rows)) (a .k)) (stateOf (a .m) (a .k) (now (a .s))) (a .i) (a .j)) (c .before .before .before .before .before .before .predecessor-count .result) (i .ready) (i .h) (x .result) (c .larger .result) (i .inv) (omega arith) (rw (← w .ensures .0) (x .ensures)) (c .larger .ensures)
+    largest-next (λ (w : ℕ). not (member w (predecessors (jobsOfRows (now (a .rows)) (a .k)) (a .i)))) (λ (w : ℕ). latest (finishOf (stateOf (a .m) (a .k) (now (a .s))) w)) (predecessors (jobsOfRows (now (a .rows)) (a .k)) (a .j)) (certainlyReadyBeside (jobsOfRows (now (a .rows)) (a .k)) (stateOf (a .m) (a .k) (now (a .s))) (a .i) (a .j)) (c .before .before .before .before .before .before .predecessor-count .result) (i .ready) (i .h) (x .result) (c .larger .result) (i .inv) (omega arith) (rw (← w .ensures .0) (x .ensures)) (c .larger .ensures)
 
 returns : tie.Need-returns Inv-loop μ-loop
 returns c =
     let a = c .before .before .before .before .before .before .args in
     let i = c .before .loop in
-    largest-done (λ (w : ℕ). not (member w (predecessors (jobsOf (now (a .rows)) (a .k)) (a .i)))) (λ (w : ℕ). latest (finishOf (stateOf (a .m) (a .k) (now (a .s))) w)) (predecessors (jobsOf (now (a .rows)) (a .k)) (a .j)) (certainlyReadyBeside (jobsOf (now (a .rows)) (a .k)) (stateOf (a .m) (a .k) (now (a .s))) (a .i) (a .j)) (c .before .before .before .predecessor-count .result) (i .ready) (i .h) (i .inv) (omega arith)
+    largest-done (λ (w : ℕ). not (member w (predecessors (jobsOfRows (now (a .rows)) (a .k)) (a .i)))) (λ (w : ℕ). latest (finishOf (stateOf (a .m) (a .k) (now (a .s))) w)) (predecessors (jobsOfRows (now (a .rows)) (a .k)) (a .j)) (certainlyReadyBeside (jobsOfRows (now (a .rows)) (a .k)) (stateOf (a .m) (a .k) (now (a .s))) (a .i) (a .j)) (c .before .before .before .predecessor-count .result) (i .ready) (i .h) (i .inv) (omega arith)
 
 pub certainly-ready-beside-spec : {M : Type 1} → statement M
 certainly-ready-beside-spec =

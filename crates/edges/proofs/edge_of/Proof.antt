@@ -6,7 +6,7 @@ use denote.Ref.{now}
 use borrow.Author.Needs.{needs}
 use Rattle.model.specs.Limits.{latestTime}
 use Rattle.model.proofs.Bounds.{earliest-start-up-to, bound-up-to}
-use Rattle.jobs.specs.Rows.{jobsOf}
+use Rattle.jobs.specs.internal.JobRow.{jobsOfRows}
 use Rattle.jobs.proofs.Jobs.{length-jobs}
 use Rattle.states.specs.internal.Slots.{stateOf}
 use Rattle.edges.proofs.Edges.{past-the-bound, held-back, starts}
@@ -20,7 +20,7 @@ earliest-start-requires c κs = search needs
 early : (c : tie.After-earliest-start) → c .earliest-start .result ≤ latestTime
 early c =
     let s = c .before .before .before .before in
-    let js = jobsOf (now (s .args .rows)) (s .args .k) in
+    let js = jobsOfRows (now (s .args .rows)) (s .args .k) in
     let σ = stateOf (s .args .m) (s .args .k) (now (s .args .s)) in
     let b : s .args .i < length js = omega (arith, length-jobs (now (s .args .rows)) (s .args .k), s .pre .0) in
     omega (arith, c .earliest-start .ensures, earliest-start-up-to js latestTime (s .pre .1 .readable .setting .timed) σ (s .pre .1 .bounded) (s .args .i) b)
@@ -29,7 +29,7 @@ returns : tie.Need-returns
 returns c =
     let s = c .before .before .before .before .before in
     let e = c .before .earliest-start in
-    let js = jobsOf (now (s .args .rows)) (s .args .k) in
+    let js = jobsOfRows (now (s .args .rows)) (s .args .k) in
     let σ = stateOf (s .args .m) (s .args .k) (now (s .args .s)) in
     past-the-bound js σ (s .args .i) (e .result) (s .args .bound) (e .ensures) (s .pre .3) (c .if1 .taken)
 
@@ -41,7 +41,7 @@ returns-2 c =
     let s = c .before .before .before .before .before .before .before in
     let e = c .before .before .before .earliest-start in
     let h = c .before .higher-priority-bound in
-    let js = jobsOf (now (s .args .rows)) (s .args .k) in
+    let js = jobsOfRows (now (s .args .rows)) (s .args .k) in
     let σ = stateOf (s .args .m) (s .args .k) (now (s .args .s)) in
     held-back js σ (s .args .i) (e .result) (s .args .bound) (e .ensures) (s .pre .3) (h .result) (h .ensures) (early (c .before .before .before)) (c .if2 .taken)
 
@@ -56,7 +56,7 @@ returns-3 c =
     let s = c .before .before .before .before .before .before .before .before in
     let e = c .before .before .before .before .earliest-start in
     let h = c .before .before .higher-priority-bound in
-    let js = jobsOf (now (s .args .rows)) (s .args .k) in
+    let js = jobsOfRows (now (s .args .rows)) (s .args .k) in
     let σ = stateOf (s .args .m) (s .args .k) (now (s .args .s)) in
     let b : s .args .bound ≤ latestTime = omega (arith, s .pre .3, bound-up-to js latestTime (s .pre .1 .readable .setting .timed) σ (s .pre .1 .bounded)) in
     starts js σ (s .args .i) (e .result) (s .args .bound) (e .ensures) (s .pre .3) (h .result) (h .ensures) (c .before .if2 .left) b (s .pre .2)

@@ -9,7 +9,7 @@ use denote.Ref.{now}
 use borrow.Author.Needs.{needs}
 use Rattle.model.specs.Folds.{all}
 use Rattle.model.specs.Edges.{certainlyReady}
-use Rattle.jobs.specs.Rows.{jobsOf}
+use Rattle.jobs.specs.internal.JobRow.{jobsOfRows}
 use Rattle.jobs.proofs.Jobs.{length-jobs}
 use Rattle.states.specs.internal.Slots.{stateOf}
 use Rattle.edges.specs.internal.Edges.{limitWord}
@@ -21,7 +21,7 @@ use Rattle.edges.proofs.first_certainly_ready.Tie as tie
 
 abbrev Inv-loop : tie.InvT-loop
 Inv-loop rows k s m list first₀ t₀ first t =
-    (t ≤ length list) × (first ≡ limitWord (smallestIn all (certainlyReady (jobsOf rows k) (stateOf m k s)) (take t list)))
+    (t ≤ length list) × (first ≡ limitWord (smallestIn all (certainlyReady (jobsOfRows rows k) (stateOf m k s)) (take t list)))
 
 abbrev μ-loop : tie.MeasureT-loop
 μ-loop rows k s m list first₀ t₀ first t = length list - t
@@ -37,7 +37,7 @@ entry c = c .before .before .before .before .before .before
 below : (c : tie.After-shared-slice-known4 Inv-loop μ-loop) → getD (now (entry c .args .list)) (c .before .before .loop .t) 0 < entry c .args .k
 below c =
     let s = c .before .before .before .before .before .before in
-    let js = jobsOf (now (s .args .rows)) (s .args .k) in
+    let js = jobsOfRows (now (s .args .rows)) (s .args .k) in
     let σ = stateOf (s .args .m) (s .args .k) (now (s .args .s)) in
     listed-candidate js σ (s .args .k) (now (s .args .list)) (s .pre .listed) (c .before .before .loop .t) (omega arith) .0
 
@@ -66,7 +66,7 @@ loop-again : tie.Need-loop-again Inv-loop μ-loop
 loop-again c =
     let s = c .before .before .before .before .before .before .before .before in
     let i = c .before .before .before .before .loop in
-    let f = certainlyReady (jobsOf (now (s .args .rows)) (s .args .k)) (stateOf (s .args .m) (s .args .k) (now (s .args .s))) in
+    let f = certainlyReady (jobsOfRows (now (s .args .rows)) (s .args .k)) (stateOf (s .args .m) (s .args .k) (now (s .args .s))) in
     let r = c .before .certainly-ready in
     let h : i .t < length (now (s .args .list)) = omega arith in (
       omega arith,
@@ -77,7 +77,7 @@ loop-again c =
 returns : tie.Need-returns Inv-loop μ-loop
 returns c =
     let s = c .before .before .before .before .before in
-    let js = jobsOf (now (s .args .rows)) (s .args .k) in
+    let js = jobsOfRows (now (s .args .rows)) (s .args .k) in
     let σ = stateOf (s .args .m) (s .args .k) (now (s .args .s)) in
     let e : take (c .before .loop .t) (now (s .args .list)) ≡ now (s .args .list) = take-all (c .before .loop .t) (now (s .args .list)) (omega arith) in
     c .before .loop .inv .1 ∙ ap (λ (l : List ℕ). limitWord (smallestIn all (certainlyReady js σ) l)) e

@@ -13,7 +13,7 @@ use borrow.Author.Needs.{needs}
 use Rattle.model.specs.Jobs.{job, before}
 use Rattle.model.proofs.Booleans.{and-right}
 use Rattle.model.specs.Edges.{certainlyReadyBeside}
-use Rattle.jobs.specs.Rows.{jobsOf}
+use Rattle.jobs.specs.internal.JobRow.{jobsOfRows}
 use Rattle.jobs.proofs.Jobs.{length-jobs}
 use Rattle.states.specs.internal.Slots.{stateOf}
 use Rattle.edges.specs.internal.Edges.{limitWord}
@@ -25,7 +25,7 @@ use Rattle.edges.proofs.higher_priority_bound.Tie as tie
 
 abbrev Inv-loop : tie.InvT-loop
 Inv-loop rows k s m list i start first₀ t₀ first t =
-    (t ≤ length list) × (first ≡ limitWord (smallestIn (λ j. before (jobsOf rows k) j i) (certainlyReadyBeside (jobsOf rows k) (stateOf m k s) i) (take t list)))
+    (t ≤ length list) × (first ≡ limitWord (smallestIn (λ j. before (jobsOfRows rows k) j i) (certainlyReadyBeside (jobsOfRows rows k) (stateOf m k s) i) (take t list)))
 
 abbrev μ-loop : tie.MeasureT-loop
 μ-loop rows k s m list i start first₀ t₀ first t = length list - t
@@ -37,7 +37,7 @@ returns : tie.Need-returns Inv-loop μ-loop
 returns c =
     let s = c .before .before .before .before .before .before in
     let i = c .before .before .loop in
-    let js = jobsOf (now (s .args .rows)) (s .args .k) in
+    let js = jobsOfRows (now (s .args .rows)) (s .args .k) in
     let σ = stateOf (s .args .m) (s .args .k) (now (s .args .s)) in
     let l = now (s .args .list) in
     let q : ℕ → Bool = λ j. before js j (s .args .i) in
@@ -54,7 +54,7 @@ entry c = c .before .before .before .before .before .before .before
 below : (c : tie.After-shared-slice-known4 Inv-loop μ-loop) → getD (now (entry c .args .list)) (c .before .before .before .loop .t) 0 < entry c .args .k
 below c =
     let s = c .before .before .before .before .before .before .before in
-    let js = jobsOf (now (s .args .rows)) (s .args .k) in
+    let js = jobsOfRows (now (s .args .rows)) (s .args .k) in
     let σ = stateOf (s .args .m) (s .args .k) (now (s .args .s)) in
     listed-candidate js σ (s .args .k) (now (s .args .list)) (s .pre .1 .listed) (c .before .before .before .loop .t) (omega arith) .0
 
@@ -87,7 +87,7 @@ unfolding certainlyReadyBeside
 loop-again c =
     let s = c .before .before .before .before .before .before .before .before .before in
     let i = c .before .before .before .before .before .loop in
-    let js = jobsOf (now (s .args .rows)) (s .args .k) in
+    let js = jobsOfRows (now (s .args .rows)) (s .args .k) in
     let σ = stateOf (s .args .m) (s .args .k) (now (s .args .s)) in
     let l = now (s .args .list) in
     let q : ℕ → Bool = λ j. before js j (s .args .i) in
@@ -108,7 +108,7 @@ loop-again c =
 returns-2 : tie.Need-returns-2 Inv-loop μ-loop
 returns-2 c =
     let s = c .before .before .before .before .before in
-    let js = jobsOf (now (s .args .rows)) (s .args .k) in
+    let js = jobsOfRows (now (s .args .rows)) (s .args .k) in
     let σ = stateOf (s .args .m) (s .args .k) (now (s .args .s)) in
     let l = now (s .args .list) in
     let i = s .args .i in

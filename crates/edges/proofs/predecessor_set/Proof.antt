@@ -10,7 +10,7 @@ use borrow.Author.Needs.{needs}
 use Rattle.model.specs.Folds.{member}
 use Rattle.model.specs.Jobs.{predecessors}
 use Rattle.model.proofs.Booleans.{clash}
-use Rattle.jobs.specs.Rows.{jobsOf}
+use Rattle.jobs.specs.internal.JobRow.{jobsOfRows}
 use Rattle.states.specs.internal.Slots.{inSet}
 use Rattle.states.proofs.Bits.{in-none, shifted-one}
 use Rattle.edges.proofs.Candidates.{join-next, joined-all, joined-below}
@@ -19,8 +19,8 @@ use Rattle.edges.proofs.predecessor_set.Tie as tie
 
 abbrev Inv-loop : tie.InvT-loop
 Inv-loop rows k i n set₀ j₀ set j =
-    (n ≡ length (predecessors (jobsOf rows k) i))
-    × ((w : ℕ) → member w (predecessors (jobsOf rows k) i) ≡ (inSet set w || member w (drop j (predecessors (jobsOf rows k) i))))
+    (n ≡ length (predecessors (jobsOfRows rows k) i))
+    × ((w : ℕ) → member w (predecessors (jobsOfRows rows k) i) ≡ (inSet set w || member w (drop j (predecessors (jobsOfRows rows k) i))))
     × ((w : ℕ) → inSet set w ≡ true → w < i)
 
 abbrev μ-loop : tie.MeasureT-loop
@@ -48,7 +48,7 @@ loop-again : tie.Need-loop-again Inv-loop μ-loop
 loop-again c =
     let a = c .before .before .before .before .before .args in
     let i = c .before .before .loop in
-    let l = predecessors (jobsOf (now (a .rows)) (a .k)) (a .i) in
+    let l = predecessors (jobsOfRows (now (a .rows)) (a .k)) (a .i) in
     let p = c .predecessor in
     let e : bitOr (i .set) (1 * 2 ^ p .result % 2 ^ 64) ≡ bitOr (i .set) (2 ^ getD l (i .j) 0) =
     ap (bitOr (i .set)) (shifted-one 64 (p .result) (omega arith) ∙ ap (λ (x : ℕ). 2 ^ x) (p .ensures .0)) in
@@ -59,7 +59,7 @@ returns c =
     let a = c .before .before .before .before .args in
     let i = c .before .loop in
     record {
-      members = joined-all (predecessors (jobsOf (now (a .rows)) (a .k)) (a .i)) (i .j) (i .set) (i .inv .1) (omega arith);
+      members = joined-all (predecessors (jobsOfRows (now (a .rows)) (a .k)) (a .i)) (i .j) (i .set) (i .inv .1) (omega arith);
       earlier = i .inv .2;
     }
 

@@ -3,7 +3,7 @@ use mathlib.Core.Path.{sym, _∙_}
 use native.Mathlib.Omega.{arith}
 use denote.Ref.{now}
 use borrow.Author.Needs.{needs}
-use Rattle.jobs.specs.Rows.{jobsOf}
+use Rattle.jobs.specs.internal.JobRow.{jobsOfRows}
 use Rattle.states.specs.internal.Slots.{stateOf}
 use Rattle.edges.proofs.Edges.{first-certainly, bound-with, bound-without}
 use Rattle.edges.proofs.work_conserving_bound.Statement.{statement}
@@ -25,7 +25,7 @@ returns : tie.Need-returns
 returns c =
     let s = c .before .before .before .before .before .before in
     let f = c .before .before .first-certainly-ready in
-    let js = jobsOf (now (s .args .rows)) (s .args .k) in
+    let js = jobsOfRows (now (s .args .rows)) (s .args .k) in
     let σ = stateOf (s .args .m) (s .args .k) (now (s .args .s)) in
     sym (first-certainly (s .args .m) (s .args .k) (now (s .args .s)) (s .pre .readable .setting .cores))
     ∙ bound-without js (s .pre .readable .setting .timed) σ (s .pre .bounded) (f .result) (f .ensures) (c .if1 .taken)
@@ -37,7 +37,7 @@ returns-2 : tie.Need-returns-2
 returns-2 c =
     let s = c .before .before .before .before .before .before .before in
     let f = c .before .before .before .first-certainly-ready in
-    let js = jobsOf (now (s .args .rows)) (s .args .k) in
+    let js = jobsOfRows (now (s .args .rows)) (s .args .k) in
     let σ = stateOf (s .args .m) (s .args .k) (now (s .args .s)) in
     omega (
       arith,

@@ -5,14 +5,14 @@ use native.Mathlib.Omega.{arith}
 use lib.ListN.{length, length-set}
 use denote.Ref.{now}
 use borrow.Author.Needs.{needs}
-use Rattle.jobs.specs.Rows.{jobsOf}
+use Rattle.jobs.specs.internal.JobRow.{jobsOfRows}
 use Rattle.edges.specs.internal.Edges.{PredecessorSets}
 use Rattle.edges.proofs.Candidates.{sets-next}
 use Rattle.edges.proofs.write_predecessor_sets.Statement.{statement}
 use Rattle.edges.proofs.write_predecessor_sets.Tie as tie
 
 abbrev Inv-loop : tie.InvT-loop
-Inv-loop rows k sets₀ i₀ sets i = (i ≤ k) × (length sets ≡ length sets₀) × PredecessorSets (jobsOf rows k) i sets
+Inv-loop rows k sets₀ i₀ sets i = (i ≤ k) × (length sets ≡ length sets₀) × PredecessorSets (jobsOfRows rows k) i sets
 
 abbrev μ-loop : tie.MeasureT-loop
 μ-loop rows k sets₀ i₀ sets i = k - i
@@ -40,7 +40,7 @@ loop-again c =
     let a = c .before .before .before .before .before .args in
     let i = c .before .before .loop in
     let r = c .predecessor-set in
-    (omega arith, simp length-set (i .inv .1), sets-next (jobsOf (now (a .rows)) (a .k)) (i .i) (i .sets) (r .result) (omega (arith, i .inv .1)) (i .inv .2) (r .ensures))
+    (omega arith, simp length-set (i .inv .1), sets-next (jobsOfRows (now (a .rows)) (a .k)) (i .i) (i .sets) (r .result) (omega (arith, i .inv .1)) (i .inv .2) (r .ensures))
 
 same-length : tie.Need-same-length Inv-loop μ-loop
 same-length c = search needs

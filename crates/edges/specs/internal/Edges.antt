@@ -11,7 +11,7 @@ use Rattle.model.specs.States.{State}
 use Rattle.model.specs.Edges.{candidate, certainlyReady, earliestStart, eligible, latestStart}
 use Rattle.model.specs.Exploration.{stateWords}
 use Rattle.model.specs.internal.Bounds.{Bounded}
-use Rattle.jobs.specs.Rows.{jobsOf, Setting}
+use Rattle.jobs.specs.internal.JobRow.{jobsOfRows, Setting}
 use Rattle.states.specs.internal.Slots.{inSet, stateOf}
 use Rattle.edges.specs.declared.Edge.{Edge}
 use Rattle.edges.specs.declared.Edge.the-variants.{NotEligible, Starts}
@@ -42,8 +42,8 @@ candidates js σ k = listBelow (candidate js σ) k
 -- a state whose edges are asked for: its times are bounded, and its candidates listed
 pub record Prepared (rows : List ℕ) (k : ℕ) (s : List ℕ) (m : ℕ) (list : List ℕ) : Type 0 where
   pub readable : Readable rows k s m
-  pub bounded : Bounded (jobsOf rows k) latestTime (stateOf m k s)
-  pub listed : list ≡ candidates (jobsOf rows k) (stateOf m k s) k
+  pub bounded : Bounded (jobsOfRows rows k) latestTime (stateOf m k s)
+  pub listed : list ≡ candidates (jobsOfRows rows k) (stateOf m k s) k
 
 -- a limit in a word: no time is as large as the word for infinity
 abbrev pub noLimit : ℕ

@@ -7,15 +7,15 @@ use denote.Ref.{now}
 use borrow.Author.Needs.{needs}
 use Rattle.model.specs.Folds.{member}
 use Rattle.model.specs.Jobs.{predecessors}
-use Rattle.jobs.specs.Rows.{jobsOf}
+use Rattle.jobs.specs.internal.JobRow.{jobsOfRows}
 use Rattle.jobs.proofs.Jobs.{search-fails, search-finds, search-goes-on}
 use Rattle.jobs.proofs.is_predecessor.Statement.{statement}
 use Rattle.jobs.proofs.is_predecessor.Tie as tie
 
 abbrev Inv-loop : tie.InvT-loop
 Inv-loop rows k i w n j₀ j =
-    (n ≡ length (predecessors (jobsOf rows k) i))
-    × (member w (predecessors (jobsOf rows k) i) ≡ member w (drop j (predecessors (jobsOf rows k) i)))
+    (n ≡ length (predecessors (jobsOfRows rows k) i))
+    × (member w (predecessors (jobsOfRows rows k) i) ≡ member w (drop j (predecessors (jobsOfRows rows k) i)))
 
 abbrev μ-loop : tie.MeasureT-loop
 μ-loop rows k i w n j₀ j = n - j
@@ -33,7 +33,7 @@ returns : tie.Need-returns Inv-loop μ-loop
 returns c =
     let a = c .before .before .before .before .before .before .args in
     let i = c .before .before .before .loop in
-    let l = predecessors (jobsOf (now (a .rows)) (a .k)) (a .i) in
+    let l = predecessors (jobsOfRows (now (a .rows)) (a .k)) (a .i) in
     sym (search-finds (a .w) l (i .j) (i .inv .1) (omega (arith, i .inv .0)) (c .if1 .taken ∙ c .before .predecessor .ensures .0))
 
 add-j : tie.Need-add-j Inv-loop μ-loop
@@ -45,7 +45,7 @@ loop-less c = search needs
 loop-again : tie.Need-loop-again Inv-loop μ-loop
 loop-again c =
     let a = c .before .before .before .before .before .before .args in
-    let l = predecessors (jobsOf (now (a .rows)) (a .k)) (a .i) in
+    let l = predecessors (jobsOfRows (now (a .rows)) (a .k)) (a .i) in
     let i = c .before .before .before .loop in
     let other : a .w ≡ getD l (i .j) 0 → ⊥ = λ e. c .if1 .left (e ∙ sym (c .before .predecessor .ensures .0)) in
     (i .inv .0, search-goes-on (a .w) l (i .j) (i .inv .1) (omega (arith, i .inv .0)) other)
@@ -54,7 +54,7 @@ returns-2 : tie.Need-returns-2 Inv-loop μ-loop
 returns-2 c =
     let a = c .before .before .before .before .args in
     let i = c .before .loop in
-    sym (search-fails (a .w) (predecessors (jobsOf (now (a .rows)) (a .k)) (a .i)) (i .j) (i .inv .1) (omega (arith, i .inv .0)))
+    sym (search-fails (a .w) (predecessors (jobsOfRows (now (a .rows)) (a .k)) (a .i)) (i .j) (i .inv .1) (omega (arith, i .inv .0)))
 
 pub is-predecessor-spec : {M : Type 1} → statement M
 is-predecessor-spec =

@@ -1,7 +1,7 @@
 -- `number` meets its contract. Assumes nothing.
 use mathlib.Core.Path.{sym, ap}
 use native.Mathlib.Omega.{arith}
-use Rattle.checker.specs.Checking.{toldOf}
+use Rattle.checker.specs.Checking.{valuesOf}
 use Rattle.phrase.specs.Host.{numberOf}
 use borrow.Author.Needs.{needs}
 use Rattle.phrase.proofs.number.Statement.{statement}
@@ -25,6 +25,9 @@ add-result c = let p = rw (c .before .answer .given .1) at (c .before .before .b
 enum-known-answer-2 : tie.Need-enum-known-answer-2
 enum-known-answer-2 c = search needs
 
+cast-result-2 : tie.Need-cast-result-2
+cast-result-2 c = search needs
+
 mul-result-2 : tie.Need-mul-result-2
 mul-result-2 c = search needs
 
@@ -32,13 +35,13 @@ add-result-2 : tie.Need-add-result-2
 add-result-2 c = let p = rw (c .before .answer2 .given .1) at (c .before .before .before .pre) in omega arith
 
 returns : tie.Need-returns
-returns c = sym (ap (λ a. numberOf (toldOf a)) (c .enum-told .given .1))
+returns c = sym (ap (λ a. numberOf (valuesOf a)) (c .enum-told .given .1))
 
 returns-2 : tie.Need-returns-2
-returns-2 c = sym (ap (λ a. numberOf (toldOf a)) (c .before .answer .given .1))
+returns-2 c = sym (ap (λ a. numberOf (valuesOf a)) (c .before .answer .given .1))
 
 returns-3 : tie.Need-returns-3
-returns-3 c = sym (ap (λ a. numberOf (toldOf a)) (c .before .answer2 .given .1))
+returns-3 c = sym (ap (λ a. numberOf (valuesOf a)) (c .before .answer2 .given .1))
 
 pub number-spec : {M : Type 1} → statement M
 number-spec =
@@ -50,6 +53,7 @@ number-spec =
     mul-result
     add-result
     enum-known-answer-2
+    cast-result-2
     mul-result-2
     add-result-2
     returns

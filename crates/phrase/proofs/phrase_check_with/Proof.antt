@@ -3,9 +3,10 @@ use mathlib.Core.Path.{sym, ap, _∙_}
 use native.Mathlib.Omega.{arith}
 use lib.ListN.{length}
 use denote.Ref.{now}
-use Rattle.format.specs.Valid.{AreBytes}
+use Rattle.format.specs.Bytes.{AreBytes}
+use Rattle.checker.proofs.Promise.{playable}
 use Rattle.phrase.specs.Host.{numberOf}
-use Rattle.phrase.proofs.Numbers.{place-apart, playable}
+use Rattle.phrase.proofs.Numbers.{place-apart, zero-accepts}
 use borrow.Author.Needs.{needs}
 use Rattle.phrase.proofs.phrase_check_with.Statement.{statement}
 use Rattle.phrase.proofs.phrase_check_with.Tie as tie
@@ -27,9 +28,11 @@ same-length c = search needs
 returns : tie.Need-returns
 returns c =
     let known = c .before .before .before .before .before .before in
+    let file = now (known .before .args .file) in
+    let words = length (now (known .before .args .table)) in
     let done = c .before .before .before .check .ensures in
     let number = c .number .ensures ∙ ap numberOf (done .1 .0) in
-    (number, (done .1 .1 .0, λ z. playable (now (known .before .args .file)) (bytes known) (length (now (known .before .args .table))) (sym number ∙ z)))
+    (number, (done .1 .1 .0, λ z. playable file (bytes known) words (zero-accepts file (bytes known) words (sym number ∙ z))))
 
 pub phrase-check-with-spec : {M : Type 1} → statement M
 phrase-check-with-spec = tie.close (tie.spec check-requires number-requires same-length returns)

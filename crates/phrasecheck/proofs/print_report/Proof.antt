@@ -8,6 +8,7 @@ use lib.Seq.{length-take-le}
 use Rattle.format.specs.Reading.{reading}
 use Rattle.checker.specs.Checking.{checkedOf}
 use Rattle.report.specs.Report.{textOf}
+use Rattle.phrase.specs.Host.{tableWords}
 use Rattle.report.proofs.Delivery.{length-within}
 use borrow.Author.Needs.{needs}
 use Rattle.phrasecheck.proofs.print_report.Statement.{statement}
@@ -16,7 +17,7 @@ use Rattle.phrasecheck.proofs.print_report.Tie as tie
 in-text : (c : tie.After-report) → c .report .result .length ≤ length (c .report .last .1 .1 .0)
 in-text c =
     let o = reading (now (c .before .before .before .before .args .file)) in
-    omega (arith, length-within (textOf o 16384) (replicate 32768 0) (checkedOf o 16384) _ (c .report .ensures .0), c .report .kept)
+    omega (arith, length-within (textOf o tableWords) (replicate 32768 0) (checkedOf o tableWords) _ (c .report .ensures .0), c .report .kept)
 
 slice-aggregate-report : tie.Need-slice-aggregate-report
 slice-aggregate-report c = search needs

@@ -3,7 +3,7 @@ use mathlib.Core.Path.{_∙_}
 use native.Mathlib.Nat.{zero-add}
 use native.Mathlib.Omega.{arith}
 use denote.Ref.{now}
-use Rattle.report.specs.Rows.{textIn}
+use Rattle.report.specs.internal.Rows.{textIn}
 use Rattle.report.proofs.Delivery.{short-left, short-reported, whole-placed, whole-reported}
 use borrow.Author.Needs.{needs}
 use Rattle.report.proofs.deliver.Statement.{statement}
@@ -18,7 +18,7 @@ refused-requires c κs = search needs
 returns : tie.Need-returns
 returns c =
     let a = c .before .before .before .before in
-    let text = textIn (a .args .checked .answer) (a .args .checked) (now (a .args .rows)) in
+    let text = textIn (a .args .checked .answer) (a .args .checked) (now (a .args .phrase)) in
     let long = c .before .before .text-length .ensures .0 in
     let buffer = now (a .args .text) in
     (rw (c .refused .ensures) (short-reported text buffer (a .args .checked) (omega (arith, long))), short-left text buffer (omega (arith, long)))
@@ -32,7 +32,7 @@ same-length c = search needs
 returns-2 : tie.Need-returns-2
 returns-2 c =
     let a = c .before .before .before .before .before .before .before in
-    let text = textIn (a .args .checked .answer) (a .args .checked) (now (a .args .rows)) in
+    let text = textIn (a .args .checked .answer) (a .args .checked) (now (a .args .phrase)) in
     let long = c .before .before .before .before .before .text-length .ensures .0 in
     let buffer = now (a .args .text) in
     let w = c .before .before .put-text .ensures in

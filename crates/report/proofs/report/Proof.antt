@@ -1,16 +1,18 @@
 -- `report` meets its contract: the file is checked, its text written where it has room. Assumes nothing.
+use Prim.Native.Nat.{ℕ}
 use mathlib.Core.Path.{ap, _∙_}
+use mathlib.Core.List.{List}
 use native.Mathlib.Omega.{arith}
 use lib.ListN.{length}
 use denote.Ref.{now}
 use borrow.Author.Needs.{needs}
 use Rattle.format.specs.Reading.{reading}
-use Rattle.format.specs.Valid.{AreBytes}
-use Rattle.checker.specs.Checking.{verdict, toldOf, toldFor}
-use Rattle.checker.proofs.Promise.{runs-kept, as-written}
+use Rattle.format.specs.Bytes.{AreBytes}
+use Rattle.checker.specs.Checking.{verdict, answerFor, valuesOf}
+use Rattle.checker.proofs.Promise.{runs-kept, answer-is}
 use Rattle.report.specs.Report.{fits, textOf, delivered, reportedIn}
 use Rattle.report.specs.declared.Reported.{Reported}
-use Rattle.report.proofs.Delivery.{reported-told, reported-accepted}
+use Rattle.report.proofs.Delivery.{reported-answer, reported-accepted}
 use Rattle.report.proofs.Texts.{Composed, composed}
 use Rattle.report.proofs.report.Statement.{statement}
 use Rattle.report.proofs.report.Tie as tie
@@ -18,13 +20,21 @@ use Rattle.report.proofs.report.Tie as tie
 bytes : (c : tie.After-shared-slice-known) → AreBytes (now (c .before .args .file))
 bytes c i b = omega (arith, c .shared-slice-known .given i)
 
-can : (c : tie.After-check-rows) → Composed (c .check-rows .result) (c .check-rows .last .1 .0) (textOf (reading (now (c .before .before .before .before .before .before .args .file))) (length (now (c .before .before .before .before .before .before .args .table))))
-can c =
-    let known = c .before .before .before .before .before in
-    composed (now (known .before .args .file)) (bytes known) (length (now (known .before .args .table))) _ _ (c .check-rows .ensures .0) (c .check-rows .ensures .1 .0)
+abbrev known : tie.After-check-phrase → tie.After-shared-slice-known
+known c = c .before .before .before .before .before
 
-check-rows-requires : tie.Need-check-rows-requires
-check-rows-requires c κs = search needs
+abbrev file : tie.After-check-phrase → List ℕ
+file c = now (known c .before .args .file)
+
+abbrev words : tie.After-check-phrase → ℕ
+words c = length (now (known c .before .args .table))
+
+can : (c : tie.After-check-phrase) → Composed (c .check-phrase .result) (c .check-phrase .last .1 .0) (textOf (reading (file c)) (words c))
+can c =
+    composed (file c) (bytes (known c)) (words c) _ _ (c .check-phrase .ensures .0) (c .check-phrase .ensures .1 .0)
+
+check-phrase-requires : tie.Need-check-phrase-requires
+check-phrase-requires c κs = search needs
 
 deliver-requires : tie.Need-deliver-requires
 deliver-requires c κs = let h = can (c .before .before .before .before) in (h .few, h .keyed)
@@ -38,24 +48,21 @@ same-length-2 c = search needs
 returns : tie.Need-returns
 returns c =
     let d = c .before .before .before .before .before .before .before in
-    let known = d .before .before .before .before .before in
-    let file = now (known .before .args .file) in
-    let words = length (now (known .before .args .table)) in
-    let buffer = now (known .before .args .text) in
-    let text = textOf (reading file) words in
-    let checked = d .check-rows .ensures in
+    let buffer = now (known d .before .args .text) in
+    let text = textOf (reading (file d)) (words d) in
+    let checked = d .check-phrase .ensures in
     let is = can d .text-is in
     let done = c .before .before .deliver .ensures in
     let result = done .0 ∙ (λ n. reportedIn (checked .0 n) (is n) buffer) in
-    let answer = ap (λ (r : Reported). r .checked) (done .0 ∙ (λ n. reportedIn (d .check-rows .result) (is n) buffer)) in
-    let number = ap (λ r. toldOf (r .answer)) answer ∙ reported-told (d .check-rows .result) (toldFor (verdict (reading file) words)) (fits text buffer) (as-written (reading file) words _ (checked .0)) in
-    (result, (number, (done .1 ∙ ap (λ t. delivered t buffer) is, (checked .1 .1, λ x e a. runs-kept file (bytes known) words _ (reported-accepted (d .check-rows .result) _ (fits text buffer) answer a ∙ checked .0) x e a))))
+    let answer = ap (λ (r : Reported). r .checked) (done .0 ∙ (λ n. reportedIn (d .check-phrase .result) (is n) buffer)) in
+    let number = ap valuesOf (ap (λ r. r .answer) answer ∙ reported-answer (d .check-phrase .result) (answerFor (verdict (reading (file d)) (words d))) (fits text buffer) (answer-is (reading (file d)) (words d) _ (checked .0))) in
+    (result, (number, (done .1 ∙ ap (λ t. delivered t buffer) is, (checked .1 .1, λ a. runs-kept (file d) (bytes (known d)) (words d) _ (reported-accepted (d .check-phrase .result) _ (fits text buffer) answer a ∙ checked .0) a))))
 
 pub report-spec : {M : Type 1} → statement M
 report-spec =
     tie.close
     (tie.spec
-    check-rows-requires
+    check-phrase-requires
     deliver-requires
     same-length
     same-length-2

@@ -1,7 +1,8 @@
--- `show_all` is safe and ends. Assumes nothing.
-use borrow.Author.Needs.{needs}
+-- `show_all` is safe and ends: every example ends further on. Assumes nothing.
 use Prim.Native.Nat.{_-_, _≤_}
+use native.Mathlib.Omega.{arith}
 use lib.ListN.{length}
+use borrow.Author.Needs.{needs}
 use Rattle.report_examples.proofs.show_all.Statement.{statement}
 use Rattle.report_examples.proofs.show_all.Tie as tie
 
@@ -14,56 +15,40 @@ abbrev μ-loop : tie.MeasureT-loop
 loop-holds : tie.Need-loop-holds Inv-loop μ-loop
 loop-holds c = search needs
 
-sub-loop : tie.Need-sub-loop Inv-loop μ-loop
-sub-loop c = search needs
+next-example-requires : tie.Need-next-example-requires Inv-loop μ-loop
+next-example-requires c κs = search needs
 
-two-bytes-requires : tie.Need-two-bytes-requires Inv-loop μ-loop
-two-bytes-requires c κs = search needs
+enum-known-next : tie.Need-enum-known-next Inv-loop μ-loop
+enum-known-next c = search needs
 
-add-two-bytes : tie.Need-add-two-bytes Inv-loop μ-loop
-add-two-bytes c = search needs
-
-two-bytes-requires-2 : tie.Need-two-bytes-requires-2 Inv-loop μ-loop
-two-bytes-requires-2 c κs = search needs
-
-add-two-bytes-2 : tie.Need-add-two-bytes-2 Inv-loop μ-loop
-add-two-bytes-2 c = search needs
-
-two-bytes-requires-3 : tie.Need-two-bytes-requires-3 Inv-loop μ-loop
-two-bytes-requires-3 c κs = search needs
-
-add-start : tie.Need-add-start Inv-loop μ-loop
-add-start c = search needs
-
-sub-if1 : tie.Need-sub-if1 Inv-loop μ-loop
-sub-if1 c = search needs
+enum-told : tie.Need-enum-told Inv-loop μ-loop
+enum-told c = search needs
 
 returns : tie.Need-returns Inv-loop μ-loop
 returns c = search needs
 
-add-end : tie.Need-add-end Inv-loop μ-loop
-add-end c = search needs
-
 sub-show : tie.Need-sub-show Inv-loop μ-loop
-sub-show c = search needs
+sub-show c =
+    let h = rw (c .before .next .given .1) at (c .before .before .before .next-example .ensures) in omega (arith, h .0, h .1, h .2)
 
 part-show-start : tie.Need-part-show-start Inv-loop μ-loop
-part-show-start c = search needs
+part-show-start c =
+    let h = rw (c .before .next .given .1) at (c .before .before .before .next-example .ensures) in omega (arith, h .0, h .1, h .2)
 
 part-show-end : tie.Need-part-show-end Inv-loop μ-loop
-part-show-end c = search needs
+part-show-end c =
+    let h = rw (c .before .next .given .1) at (c .before .before .before .next-example .ensures) in omega (arith, h .0, h .1, h .2)
 
 show-requires : tie.Need-show-requires Inv-loop μ-loop
 show-requires c κs = search needs
 
 loop-less : tie.Need-loop-less Inv-loop μ-loop
-loop-less c = search needs
+loop-less c =
+    let h = rw (c .before .before .before .next .given .1) at (c .before .before .before .before .before .next-example .ensures) in omega (arith, h .0, h .1, h .2)
 
 loop-again : tie.Need-loop-again Inv-loop μ-loop
-loop-again c = search needs
-
-returns-2 : tie.Need-returns-2 Inv-loop μ-loop
-returns-2 c = search needs
+loop-again c =
+    let h = rw (c .before .before .before .next .given .1) at (c .before .before .before .before .before .next-example .ensures) in omega (arith, h .0, h .1, h .2)
 
 pub show-all-spec : {M : Type 1} → statement M
 show-all-spec =
@@ -72,20 +57,13 @@ show-all-spec =
     Inv-loop
     μ-loop
     loop-holds
-    sub-loop
-    two-bytes-requires
-    add-two-bytes
-    two-bytes-requires-2
-    add-two-bytes-2
-    two-bytes-requires-3
-    add-start
-    sub-if1
+    next-example-requires
+    enum-known-next
+    enum-told
     returns
-    add-end
     sub-show
     part-show-start
     part-show-end
     show-requires
     loop-less
-    loop-again
-    returns-2)
+    loop-again)

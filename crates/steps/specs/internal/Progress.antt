@@ -8,7 +8,7 @@ use Rattle.model.specs.Jobs.{Job}
 use Rattle.model.specs.States.{Range, State}
 use Rattle.model.specs.Edges.{eligible, earliestStart, earliestFinish, latestFinish}
 use Rattle.model.specs.Exploration.{Exploration, going, full, miss, stateWords}
-use Rattle.jobs.specs.Rows.{jobsOf, Setting}
+use Rattle.jobs.specs.internal.JobRow.{jobsOfRows, Setting}
 use Rattle.states.specs.declared.starting.JobStart.{JobStart}
 use Rattle.states.specs.internal.Slots.{stateOf, statesOf, Sound, AllSound}
 use Rattle.store.specs.internal.Half.{Indexed}
@@ -20,7 +20,7 @@ use Rattle.steps.specs.declared.progress.Progress.the-variants.{Going, F
 -- ---- what words say in a check of this shape
 
 abbrev pub jobsIn : Shape → List ℕ → List Job
-jobsIn shape rows = jobsOf rows (shape .jobs)
+jobsIn shape rows = jobsOfRows rows (shape .jobs)
 
 abbrev pub stateIn : Shape → List ℕ → State
 stateIn shape ws = stateOf (shape .cores) (shape .jobs) ws

@@ -2,7 +2,7 @@
 use mathlib.Core.Path.{sym, subst}
 use denote.Ref.{now}
 use borrow.Author.Needs.{needs}
-use Rattle.checker.specs.Finished.{Released}
+use Rattle.checker.specs.internal.Finishes.{Released}
 use Rattle.checker.proofs.Results.{earliest-released, latest-released, accepted-result}
 use Rattle.checker.proofs.accepting.accepting.Statement.{statement}
 use Rattle.checker.proofs.accepting.accepting.Tie as tie

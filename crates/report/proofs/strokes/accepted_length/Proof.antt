@@ -2,8 +2,8 @@
 use native.Mathlib.Omega.{arith}
 use lib.ListN.{length-append}
 use denote.Ref.{now}
-use Rattle.report.specs.Lines.{acceptedLine}
-use Rattle.report.specs.Rows.{strokesText, holdIn}
+use Rattle.lines.specs.Lines.{acceptedLine}
+use Rattle.report.specs.internal.Rows.{strokesText, holdIn}
 use borrow.Author.Needs.{needs}
 use Rattle.report.proofs.strokes.accepted_length.Statement.{statement}
 use Rattle.report.proofs.strokes.accepted_length.Tie as tie
@@ -24,7 +24,7 @@ returns : tie.Need-returns
 returns c =
     let a = c .before .before .before .before .before .before .before .before .before .before .before in
     let r = a .args .checked in
-    let rows = now (a .args .rows) in
+    let rows = now (a .args .phrase) in
     let strokes = c .before .before .strokes-length .ensures in
     let last = c .last-length .ensures in
     let last-is = rw (c .before .hold .ensures) at (last .0) in

@@ -7,11 +7,11 @@ use lib.ListN.{length}
 use denote.Ref.{now}
 use borrow.Author.Needs.{needs}
 use Rattle.words.specs.internal.Placed.{placed}
-use Rattle.text.specs.Written.{Written}
+use Rattle.text.specs.internal.Written.{Written}
 use Rattle.text.proofs.Writing.{more, room-rest}
-use Rattle.report.specs.Lines.{strokeLine, lines}
-use Rattle.report.specs.Rows.{strokeIn, strokesText}
-use Rattle.report.proofs.Series.{lines-next, lines-room}
+use Rattle.lines.specs.Lines.{strokeLine, lines}
+use Rattle.report.specs.internal.Rows.{strokeIn, strokesText}
+use Rattle.lines.proofs.Series.{lines-next, lines-room}
 use Rattle.report.proofs.strokes.put_strokes.Statement.{statement}
 use Rattle.report.proofs.strokes.put_strokes.Tie as tie
 
@@ -33,9 +33,9 @@ put-stroke-requires : tie.Need-put-stroke-requires Inv-loop μ-loop
 put-stroke-requires c κs =
     let a = c .before .before .before .before .before in
     let v = c .before .before .before .loop in
-    let line : ℕ → List ℕ = λ i. strokeLine (strokeIn (now (a .args .rows)) (now (a .args .earliest)) (now (a .args .latest)) (now (a .args .best)) (now (a .args .worst)) i) in
+    let line : ℕ → List ℕ = λ i. strokeLine (strokeIn (now (a .args .phrase)) (now (a .args .earliest)) (now (a .args .latest)) (now (a .args .best)) (now (a .args .worst)) i) in
     let whole = lines-room line (v .i) (a .args .k) (omega arith) (a .pre .2) in
-    (rw (c .stroke .ensures) (a .pre .1 (v .i) (omega arith)), rw (c .stroke .ensures) (room-rest (line (v .i)) whole (v .inv .1)))
+    (rw (c .stroke .ensures) (a .pre .1 (v .i) (omega arith) .0), rw (c .stroke .ensures) (room-rest (line (v .i)) whole (v .inv .1)))
 
 add-i : tie.Need-add-i Inv-loop μ-loop
 add-i c = search needs

@@ -5,10 +5,10 @@ use mathlib.Core.List.{List}
 use native.Mathlib.Omega.{arith}
 use lib.ListN.{length, length-append}
 use denote.Ref.{now}
-use Rattle.report.specs.Lines.{strokeLine, lines}
-use Rattle.report.specs.Longest.{longestStroke}
-use Rattle.report.specs.Rows.{strokeIn, strokesText}
-use Rattle.report.proofs.Series.{lines-next}
+use Rattle.lines.specs.Lines.{strokeLine, lines}
+use Rattle.lines.specs.internal.Longest.{longestStroke}
+use Rattle.report.specs.internal.Rows.{strokeIn, strokesText}
+use Rattle.lines.proofs.Series.{lines-next}
 use Rattle.report.proofs.strokes.strokes_length.Statement.{statement}
 use Rattle.report.proofs.strokes.strokes_length.Tie as tie
 
@@ -27,7 +27,7 @@ stroke-requires : tie.Need-stroke-requires Inv-loop μ-loop
 stroke-requires c κs = omega (arith, c .before .before .pre .0)
 
 stroke-length-requires : tie.Need-stroke-length-requires Inv-loop μ-loop
-stroke-length-requires c κs = rw (c .stroke .ensures) (c .before .before .before .pre .1 (c .before .before .loop .i) (omega arith))
+stroke-length-requires c κs = rw (c .stroke .ensures) (c .before .before .before .pre .1 (c .before .before .loop .i) (omega arith) .0)
 
 add-total : tie.Need-add-total Inv-loop μ-loop
 add-total c = omega (arith, c .before .before .before .before .pre .0, c .stroke-length .ensures .1)
@@ -42,7 +42,7 @@ loop-again : tie.Need-loop-again Inv-loop μ-loop
 loop-again c =
     let a = c .before .before .before .before .args in
     let v = c .before .before .before .loop in
-    let line : ℕ → List ℕ = λ i. strokeLine (strokeIn (now (a .rows)) (now (a .earliest)) (now (a .latest)) (now (a .best)) (now (a .worst)) i) in
+    let line : ℕ → List ℕ = λ i. strokeLine (strokeIn (now (a .phrase)) (now (a .earliest)) (now (a .latest)) (now (a .best)) (now (a .worst)) i) in
     let long = rw (c .before .stroke .ensures) at (c .stroke-length .ensures .0) in
     let all = ap length (lines-next line (v .i)) ∙ length-append (lines line (v .i)) (line (v .i)) in
     (omega arith, omega (arith, v .inv .1, long, all), omega (arith, c .stroke-length .ensures .1))

@@ -8,7 +8,7 @@ use Rattle.model.specs.Limits.{latestTime}
 use Rattle.model.specs.Jobs.{job}
 use Rattle.model.specs.States.{Range}
 use Rattle.model.specs.Exploration.{limited, stored}
-use Rattle.jobs.specs.Rows.{jobsOf}
+use Rattle.jobs.specs.internal.JobRow.{jobsOfRows}
 use Rattle.states.specs.internal.Slots.{stateOf, statesOf}
 use Rattle.states.specs.internal.Writing.{afterStart}
 use Rattle.steps.specs.internal.Observed.{observedOf}
@@ -21,7 +21,7 @@ observe-requires : tie.Need-observe-requires
 observe-requires c κs =
     let p = c .before .before .before .before .before .before .pre in
     let a = c .before .before .before .before .before .before .args in
-    (p .0, p .1 .setting .jobs, takes-time (jobsOf (now (a .rows)) (a .shape .jobs)) (stateOf (a .shape .cores) (a .shape .jobs) (now (a .cur))) (a .start) (p .2) (most-positive (now (a .rows)) (a .shape .jobs) (a .shape .cores) (p .1 .setting) (a .start .job) (p .0)), p .1 .observed)
+    (p .0, p .1 .setting .jobs, takes-time (jobsOfRows (now (a .rows)) (a .shape .jobs)) (stateOf (a .shape .cores) (a .shape .jobs) (now (a .cur))) (a .start) (p .2) (most-positive (now (a .rows)) (a .shape .jobs) (a .shape .cores) (p .1 .setting) (a .start .job) (p .0)), p .1 .observed)
 
 deadline-requires : tie.Need-deadline-requires
 deadline-requires c κs = search needs
@@ -33,7 +33,7 @@ returns : tie.Need-returns
 returns c =
     let a = c .before .before .before .before .before .before .before .before .before .before .before .args in
     let p = c .before .before .before .before .before .before .before .before .before .before .before .pre in
-    let js = jobsOf (now (a .rows)) (a .shape .jobs) in
+    let js = jobsOfRows (now (a .rows)) (a .shape .jobs) in
     let σ = stateOf (a .shape .cores) (a .shape .jobs) (now (a .cur)) in
     let late : job js (a .start .job) .deadline < a .start .latest = omega (arith, c .if1 .taken, c .before .deadline .ensures) in
     record {
@@ -46,7 +46,7 @@ store-successor-requires : tie.Need-store-successor-requires
 store-successor-requires c κs =
     let a = c .before .before .before .before .before .before .before .before .before .before .before .before .before .args in
     let p = c .before .before .before .before .before .before .before .before .before .before .before .before .before .pre in
-    let js = jobsOf (now (a .rows)) (a .shape .jobs) in
+    let js = jobsOfRows (now (a .rows)) (a .shape .jobs) in
     let σ = stateOf (a .shape .cores) (a .shape .jobs) (now (a .cur)) in
     let given = p .1 in
     let half = given .target .0 in (
@@ -67,7 +67,7 @@ returns-2 : tie.Need-returns-2
 returns-2 c =
     let a = c .before .before .before .before .before .before .before .before .before .before .before .before .before .before .before .before .before .before .args in
     let p = c .before .before .before .before .before .before .before .before .before .before .before .before .before .before .before .before .before .before .pre in
-    let js = jobsOf (now (a .rows)) (a .shape .jobs) in
+    let js = jobsOfRows (now (a .rows)) (a .shape .jobs) in
     let σ = stateOf (a .shape .cores) (a .shape .jobs) (now (a .cur)) in
     let l = statesOf (a .shape .cores) (a .shape .jobs) (now (a .half)) (a .n) in
     let given = p .1 in

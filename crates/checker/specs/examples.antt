@@ -1,0 +1,3 @@
+-- Worked examples of the definitions.
+pub mod Checks
+pub mod Playable

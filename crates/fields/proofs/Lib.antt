@@ -1,0 +1,3 @@
+-- Laws of the fields of records.
+pub mod BellFields
+pub mod ListedJobs

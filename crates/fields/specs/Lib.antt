@@ -1,0 +1,2 @@
+-- The records of the file.
+pub mod internal

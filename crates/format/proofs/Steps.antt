@@ -1,0 +1,153 @@
+-- Reading and the rules, by the tests that led there: a law for each way out and for each turn of a loop. Assumes nothing.
+use Prim.Native.Nat.{ℕ, suc, _+_, _-_, _≤_, _<_}
+use mathlib.Core.Path.{_≡_}
+use mathlib.Core.Bool.{true, false}
+use mathlib.Core.List.{List, [], _∷_, _++_}
+use mathlib.Core.Option.{none, some}
+use native.Mathlib.Omega.{arith}
+use lib.ListN.{length, drop}
+use borrow.Author.Tests.{le-leb, lt-leb, lt-ltb, le-ltb}
+use Rattle.model.specs.Refusals.{wrongEnd, wrongBell, doubledKey, wrongNoteLength, silentKey, wrongTimes, wrongListed}
+use Rattle.format.specs.Bytes.{number}
+use Rattle.format.specs.Layout.{Layout, bellBytes, mostListed, noteLength, isNoteLength}
+use Rattle.format.specs.Outcome.{ok, refused}
+use Rattle.format.specs.Phrase.{Bell, Note, sounding, find}
+use Rattle.format.specs.Rules.{bellInRange, bellRules, areTimes, rises, noteRules, bellsRules, notesRules}
+use Rattle.format.specs.Reading.{bellIn, bellRecord, noteIn, noteRecord, bellsFrom, notesFrom}
+
+-- ---- the rules of a bell and of a note
+
+module _ (l : Layout) (bs : List Bell) (at : ℕ) (b : Bell) where
+  -- A bell out of its ranges is refused.
+  pub outside : bellInRange b ≡ false → bellRules bs at b ≡ refused wrongBell at
+  unfolding bellRules
+  outside e = simp e
+
+  module _ (e : bellInRange b ≡ true) where
+    -- A bell in range is refused where one before sounds for its key.
+    pub doubled : (k : ℕ) → find (sounding b) bs ≡ some k → bellRules bs at b ≡ refused doubledKey at
+    unfolding bellRules
+    doubled k f = simp (e, f)
+
+    -- A bell in range passes where none before sounds for its key.
+    pub whole : find (sounding b) bs ≡ none → bellRules bs at b ≡ ok b
+    unfolding bellRules
+    whole f = simp (e, f)
+
+module _ (bs : List Bell) (own at : ℕ) (n : Note) where
+  -- A note is refused where no bell sounds for its key.
+  pub no-bell : find (n .key) bs ≡ none → noteRules bs own at n ≡ refused silentKey at
+  unfolding noteRules
+  no-bell e = simp e
+
+  module _ (bell : ℕ) (e : find (n .key) bs ≡ some bell) where
+    -- A note with a bell is refused for wrong times.
+    pub bad-times : areTimes (n .earliestRelease) (n .latestRelease) (n .deadline) ≡ false → noteRules bs own at n ≡ refused wrongTimes at
+    unfolding noteRules
+    bad-times f = simp (e, f)
+
+    module _ (f : areTimes (n .earliestRelease) (n .latestRelease) (n .deadline) ≡ true) where
+      -- A note with a bell and right times is refused for numbers that do not rise below its own.
+      pub bad-listed : rises own 0 (n .listed) ≡ false → noteRules bs own at n ≡ refused wrongListed at
+      unfolding noteRules
+      bad-listed g = simp (e, f, g)
+
+      -- Any other note passes.
+      pub right : rises own 0 (n .listed) ≡ true → noteRules bs own at n ≡ ok n
+      unfolding noteRules
+      right g = simp (e, f, g)
+
+-- ---- the records of a file
+
+module _ (l : Layout) (bs : List Bell) (at : ℕ) (p : List ℕ) where
+  -- A record that ends too early is no bell.
+  pub short : length p < bellBytes l → bellRecord l bs at p ≡ refused wrongEnd at
+  unfolding bellRecord
+  short h = simp (lt-leb _ _ h)
+
+  -- A record that is long enough is read by the rules of a bell.
+  pub long : bellBytes l ≤ length p → bellRecord l bs at p ≡ bellRules bs at (bellIn l p)
+  unfolding bellRecord
+  long h = simp (le-leb _ _ h)
+
+module _ (l : Layout) (bs : List Bell) (own at : ℕ) (p : List ℕ) where
+  -- A record without a length byte is no note.
+  pub no-length : length p < 1 → noteRecord l bs own at p ≡ refused wrongEnd at
+  unfolding noteRecord
+  no-length h = simp (lt-leb _ _ h)
+
+  module _ (h : 1 ≤ length p) where
+    -- A record with a wrong length is no note.
+    pub bad-length : isNoteLength l (number 1 0 p) ≡ false → noteRecord l bs own at p ≡ refused wrongNoteLength at
+    unfolding noteRecord
+    bad-length e = simp (le-leb _ _ h, e)
+
+    module _ (e : isNoteLength l (number 1 0 p) ≡ true) where
+      -- A record that ends too early is no note.
+      pub cut : length p ≤ number 1 0 p → noteRecord l bs own at p ≡ refused wrongEnd at
+      unfolding noteRecord
+      cut g = simp (le-leb _ _ h, e, le-ltb _ _ g)
+
+      -- A record of a right length that is there is read by the rules of a note.
+      pub there : number 1 0 p < length p → noteRecord l bs own at p ≡ noteRules bs own at (noteIn l p)
+      unfolding noteRecord
+      there g = simp (le-leb _ _ h, e, lt-ltb _ _ g)
+
+-- ---- a turn of a loop, with i of n done
+
+module _ (l : Layout) (s : List ℕ) (n i at : ℕ) (bs : List Bell) (h : i < n) where
+  left : n - i ≡ suc (n - (i + 1))
+  left = omega arith
+
+  -- A bell that is read is put after those before, and the next is read after its record.
+  pub more-bells : (b : Bell) → bellRecord l bs at (drop at s) ≡ ok b → bellsFrom l s (n - i) at bs ≡ bellsFrom l s (n - (i + 1)) (at + bellBytes l) (bs ++ b ∷ [])
+  unfolding bellsFrom
+  more-bells b e = rw left (simp e)
+
+  -- A bell that is refused ends the reading of bells.
+  pub stop-bells : (r to : ℕ) → bellRecord l bs at (drop at s) ≡ refused r to → bellsFrom l s (n - i) at bs ≡ refused r to
+  unfolding bellsFrom
+  stop-bells r to e = rw left (simp e)
+
+  module _ (ns : List Note) where
+    -- A note that is read is put after those before, and the next is read after its record.
+    pub more-notes : (a : Note) → noteRecord l bs (length ns) at (drop at s) ≡ ok a
+        → notesFrom l s bs (n - i) at ns ≡ notesFrom l s bs (n - (i + 1)) (at + (1 + number 1 at s)) (ns ++ a ∷ [])
+    unfolding notesFrom
+    more-notes a e = rw left (simp e)
+
+    -- A note that is refused ends the reading of notes.
+    pub stop-notes : (r to : ℕ) → noteRecord l bs (length ns) at (drop at s) ≡ refused r to → notesFrom l s bs (n - i) at ns ≡ refused r to
+    unfolding notesFrom
+    stop-notes r to e = rw left (simp e)
+
+-- ---- the same of the rules, with the rest still to do
+
+module _ (l : Layout) (b : Bell) (rest : List Bell) (at : ℕ) (before : List Bell) where
+  -- A bell that passes is put after those before, and the next has the place after its record.
+  pub next-bell : bellRules before at b ≡ ok b → bellsRules l (b ∷ rest) at before ≡ bellsRules l rest (at + bellBytes l) (before ++ b ∷ [])
+  unfolding bellsRules
+  next-bell e = simp e
+
+  -- A bell that is refused ends the rules of the bells.
+  pub last-bell : (r to : ℕ) → bellRules before at b ≡ refused r to → bellsRules l (b ∷ rest) at before ≡ refused r to
+  unfolding bellsRules
+  last-bell r to e = simp e
+
+module _ (l : Layout) (bs : List Bell) (n : Note) (rest : List Note) (at : ℕ) (before : List Note) where
+  -- A note that lists more than four numbers is refused.
+  pub many : mostListed < length (n .listed) → notesRules l bs (n ∷ rest) at before ≡ refused wrongNoteLength at
+  unfolding notesRules
+  many h = simp (lt-leb _ _ h)
+
+  module _ (h : length (n .listed) ≤ mostListed) where
+    -- A note that passes is put after those before, and the next has the place after its record.
+    pub next-note : noteRules bs (length before) at n ≡ ok n
+        → notesRules l bs (n ∷ rest) at before ≡ notesRules l bs rest (at + (1 + noteLength l (length (n .listed)))) (before ++ n ∷ [])
+    unfolding notesRules
+    next-note e = simp (le-leb _ _ h, e)
+
+    -- A note that is refused ends the rules of the notes.
+    pub last-note : (r to : ℕ) → noteRules bs (length before) at n ≡ refused r to → notesRules l bs (n ∷ rest) at before ≡ refused r to
+    unfolding notesRules
+    last-note r to e = simp (le-leb _ _ h, e)

@@ -1,0 +1,68 @@
+-- Versions, places, and the lengths of notes, of the first layout and of one with two bytes for a number that a note lists. Assumes nothing.
+use mathlib.Core.Path.{_≡_, refl}
+use mathlib.Core.Bool.{true, false}
+use mathlib.Core.List.{[], _∷_, map}
+use Rattle.format.specs.Bytes.{digits}
+use Rattle.format.specs.Layout.{Layout, first, isVersion, layout, bellCountAt, bellsAt, noteCountAt, noteLength, listedCount, isNoteLength, mostBytes}
+
+-- One version is there; 0 and 2 are none.
+pub version-numbers : map isVersion (0 ∷ 1 ∷ 2 ∷ 255 ∷ []) ≡ false ∷ true ∷ false ∷ false ∷ []
+unfolding isVersion
+version-numbers = refl
+
+-- A number that is no version has the first layout.
+pub layouts : map layout (0 ∷ 1 ∷ 2 ∷ []) ≡ first ∷ first ∷ first ∷ []
+unfolding layout
+layouts = refl
+
+-- It has one byte for the number of notes, one for a number that a note lists, and up to 64 notes.
+pub first-layout : layout 1 ≡ record { countBytes = 1; listedBytes = 1; mostNotes = 64 }
+unfolding layout
+first-layout = refl
+
+-- Version, count and cores stand before the number of bells; a bell takes 7 bytes, a note up to 18: 7 + 96 * 7 + 1 + 64 * 18.
+pub places : bellCountAt first ∷ bellsAt first ∷ noteCountAt first 2 ∷ mostBytes first ∷ [] ≡ 6 ∷ 7 ∷ 21 ∷ 1832 ∷ []
+unfolding mostBytes
+places = refl
+
+-- ---- notes of 13 bytes and the numbers listed
+
+abbrev two : Layout
+two = record { countBytes = 2; listedBytes = 2; mostNotes = 256 }
+
+-- The lengths of notes that list none, one and four.
+pub lengths : map (noteLength first) (0 ∷ 1 ∷ 4 ∷ []) ≡ 13 ∷ 14 ∷ 17 ∷ []
+unfolding noteLength
+lengths = refl
+
+-- The same with two bytes for each.
+pub wide-lengths : map (noteLength two) (0 ∷ 1 ∷ 4 ∷ []) ≡ 13 ∷ 15 ∷ 21 ∷ []
+unfolding noteLength
+wide-lengths = refl
+
+-- How many numbers a note of a length lists.
+pub counts : map (listedCount first) (13 ∷ 14 ∷ 17 ∷ []) ≡ 0 ∷ 1 ∷ 4 ∷ []
+unfolding listedCount
+counts = refl
+
+-- The same with two bytes for each.
+pub wide-counts : map (listedCount two) (13 ∷ 15 ∷ 21 ∷ []) ≡ 0 ∷ 1 ∷ 4 ∷ []
+unfolding listedCount
+wide-counts = refl
+
+-- The least and the most length are right, and what is beyond is not.
+pub right : map (isNoteLength first) (0 ∷ 12 ∷ 13 ∷ 14 ∷ 17 ∷ 18 ∷ 255 ∷ []) ≡ false ∷ false ∷ true ∷ true ∷ true ∷ false ∷ false ∷ []
+unfolding isNoteLength
+right = refl
+
+-- With two bytes for each, no length ends within a number.
+pub wide-right : map (isNoteLength two) (12 ∷ 13 ∷ 14 ∷ 15 ∷ 21 ∷ 22 ∷ 23 ∷ []) ≡ false ∷ true ∷ false ∷ true ∷ true ∷ false ∷ false ∷ []
+unfolding isNoteLength
+wide-right = refl
+
+-- ---- numbers in bytes
+
+-- The first digit comes first; a number that is too wide loses its first digits, a short one has zeros before.
+pub bytes : digits 2 515 ∷ digits 1 316 ∷ digits 4 66051 ∷ [] ≡ (2 ∷ 3 ∷ []) ∷ (60 ∷ []) ∷ (0 ∷ 1 ∷ 2 ∷ 3 ∷ []) ∷ []
+unfolding digits
+bytes = refl

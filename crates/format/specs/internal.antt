@@ -1,0 +1,3 @@
+-- Vocabulary of internal contracts and of proofs: no public contract cites it.
+pub mod Analysable
+pub mod Fits

@@ -1,0 +1,2 @@
+-- Worked examples of the definitions: the rows of jobs.
+pub mod JobRows

@@ -1,0 +1,4 @@
+-- Vocabulary of internal contracts: no public contract cites it.
+pub mod JobRow
+pub mod JobTable
+pub mod Fields

@@ -1,0 +1,2 @@
+-- Laws of the rows that are made of a phrase.
+pub mod Held

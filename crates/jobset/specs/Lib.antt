@@ -1,0 +1,2 @@
+-- The jobs of a table that holds a phrase.
+pub mod internal

@@ -1,0 +1,38 @@
+-- The numbers that a host gets, worked out by hand. Assumes nothing.
+use Prim.Native.Nat.{ℕ}
+use mathlib.Core.Path.{_≡_, refl}
+use mathlib.Core.List.{List, [], _∷_, map}
+use Rattle.model.specs.Exploration.{analysis}
+use Rattle.format.specs.Reading.{reading}
+use Rattle.format.specs.examples.Files.{fileP}
+use Rattle.checker.specs.examples.Checks.{versionNine, byteRemains, latePhrase, Case, lent, dues, given, values}
+use Rattle.phrase.specs.Host.{tableWords, places, numberOf, numberFor}
+
+-- a table of 16,384 words, and two to the 32nd places
+pub sizes : tableWords ∷ places ∷ [] ≡ 16384 ∷ 4294967296 ∷ []
+sizes = refl
+
+-- accepted; 4 at 5; 13 at level 1; 14 with stroke 3, whose ends do not count
+pub numbers :
+    map numberOf (values 0 0 0 0 ∷ values 4 5 0 0 ∷ values 13 1 0 0 ∷ values 14 3 6 7 ∷ [])
+    ≡ 0 ∷ 17179869189 ∷ 55834574849 ∷ 60129542147 ∷ []
+numbers = refl
+
+-- files and tables, and the number that is due
+abbrev pub table : List (Case ℕ)
+table =
+    lent fileP 32 0
+    ∷ lent fileP tableWords 0
+    -- 13 at level 1, and at level 0
+    ∷ lent fileP 31 55834574849
+    ∷ lent fileP 0 55834574848
+    -- 14 with stroke 0
+    ∷ lent latePhrase 32 60129542144
+    -- 1 at 0, and 3 at 50
+    ∷ lent versionNine 0 4294967296
+    ∷ lent byteRemains 32 12884901938
+    ∷ []
+
+pub as-due : given numberFor table ≡ dues table
+unfolding reading analysis
+as-due = refl

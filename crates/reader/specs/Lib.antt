@@ -1,0 +1,3 @@
+-- The reader's answers and tables.
+pub mod examples
+pub mod internal

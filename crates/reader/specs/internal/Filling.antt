@@ -1,0 +1,91 @@
+-- The table of a phrase while it is filled. Assumes nothing.
+use Prim.Native.Nat.{ℕ, _+_, _-_, _*_, _≤_}
+use mathlib.Core.Path.{_≡_}
+use mathlib.Core.List.{List, [], _∷_, _++_}
+use lib.ListN.{length, take, drop, replicate}
+use Rattle.model.specs.Limits.{mostJobs}
+use Rattle.words.specs.internal.Placed.{placed}
+use Rattle.format.specs.Bytes.{number}
+use Rattle.format.specs.Layout.{first, coresAt, bellCountAt, noteCountAt, mostBells}
+use Rattle.format.specs.Outcome.{Outcome, ok, refused}
+use Rattle.format.specs.Phrase.{Bell, Note, Phrase}
+use Rattle.rows.specs.internal.Rows.{BeginsWith, Holds}
+use Rattle.rows.specs.internal.BellRow.{bellWords, bellRow, bellOfRow, bellsOfRows}
+use Rattle.rows.specs.internal.NoteRow.{noteWords, noteRow}
+use Rattle.rows.specs.internal.PhraseTable.{bellRowsAt, noteRowsAt}
+use Rattle.reader.specs.declared.Counts.{Counts}
+
+-- what was read, nothing on a refusal
+abbrev pub listOf : {A : Type 0} → Outcome (List A) → List A
+listOf (ok l) = l
+listOf (refused n at) = []
+
+-- ---- bells
+
+-- the bells of the first n rows
+abbrev pub bellsHeld : List ℕ → ℕ → List Bell
+bellsHeld t = bellsOfRows (drop bellRowsAt t)
+
+-- the first n rows are those of bells
+abbrev pub BellTable : List ℕ → ℕ → Type 0
+BellTable t = Holds bellRow bellOfRow bellWords (drop bellRowsAt t)
+
+-- the table once the i-th bell record has been read
+abbrev pub bellPut : Outcome Bell → List ℕ → ℕ → List ℕ
+bellPut (ok b) t i = placed t (bellRowsAt + i * bellWords) (bellRow b)
+bellPut (refused n at) t i = t
+
+-- the rows of bells begin with those of these
+abbrev pub HoldsBells : List Bell → List ℕ → Type 0
+HoldsBells bells t = BeginsWith bellRow bellWords bells (drop bellRowsAt t)
+
+-- ---- notes
+
+-- the table once the record of note `own` has been read
+abbrev pub notePut : List Bell → Outcome Note → List ℕ → ℕ → List ℕ
+notePut bells (ok n) t own = placed t (noteRowsAt + own * noteWords) (noteRow bells n)
+notePut bells (refused r at) t own = t
+
+-- the rows of notes begin with those of these
+abbrev pub HoldsNotes : List Bell → List Note → List ℕ → Type 0
+HoldsNotes bells notes t = BeginsWith (noteRow bells) noteWords notes (drop noteRowsAt t)
+
+-- ---- both
+
+abbrev pub bellsRead : Outcome Phrase → List Bell
+bellsRead (ok x) = x .bells
+bellsRead (refused n at) = []
+
+abbrev pub notesRead : Outcome Phrase → List Note
+notesRead (ok x) = x .notes
+notesRead (refused n at) = []
+
+-- the table has the rows of the phrase that was read, and room for them
+pub record Filled (o : Outcome Phrase) (t : List ℕ) : Type 0 where
+  pub fewBells : length (bellsRead o) ≤ mostBells
+  pub fewNotes : length (notesRead o) ≤ mostJobs
+  pub bellsThere : HoldsBells (bellsRead o) t
+  pub notesThere : HoldsNotes (bellsRead o) (notesRead o) t
+
+-- ---- the header, and zeros after the rows
+
+-- the counts that a file gives
+abbrev pub countsIn : List ℕ → Counts
+countsIn s =
+    record {
+      version = number 1 0 s;
+      cores = number 1 coresAt s;
+      bells = number 1 (bellCountAt first) s;
+      notes = number 1 (noteCountAt first (number 1 (bellCountAt first) s)) s;
+    }
+
+abbrev pub headed : Counts → List ℕ
+headed c = c .version ∷ c .cores ∷ c .bells ∷ c .notes ∷ []
+
+-- the first n rows of a part of the table for so many, and zeros after them
+abbrev pub rowsKept : ℕ → ℕ → ℕ → List ℕ → List ℕ
+rowsKept n most w t = take (n * w) t ++ replicate (most * w - n * w) 0
+
+-- the table with this header, and the rows that it counts
+abbrev pub completed : Counts → List ℕ → List ℕ
+completed c t = headed c ++ (rowsKept (c .bells) mostBells bellWords (drop bellRowsAt t) ++ rowsKept (c .notes) mostJobs noteWords (drop noteRowsAt t))

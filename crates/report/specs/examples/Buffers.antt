@@ -1,0 +1,123 @@
+-- The texts of files, what a report leaves in a buffer, and its result, at the borders: a buffer that the text fills, one a byte shorter, and one of none.
+-- Worked out by hand. Assumes nothing.
+use Prim.Native.Nat.{ℕ}
+use mathlib.Core.Path.{_≡_, refl}
+use mathlib.Core.List.{List, [], _∷_, _++_, map}
+use lib.ListN.{set, replicate}
+use Rattle.model.specs.Folds.{sum}
+use Rattle.model.specs.Exploration.{analysis}
+use Rattle.format.specs.Reading.{reading}
+use Rattle.format.specs.examples.Files.{fileP}
+use Rattle.text.specs.Bytes.{bytes}
+use Rattle.text.specs.Decimal.{decimalWithin}
+use Rattle.checker.specs.Checking.{perJob, Values, valuesOf}
+use Rattle.checker.specs.examples.Checks.{versionNine, latePhrase, calledLater, noStroke, Case, lent, dues, given, alone, both, values}
+use Rattle.checker.specs.declared.result.Answer.the-variants.{Accepted, Refused, Late}
+use Rattle.checker.specs.declared.result.Checked.{Checked}
+use Rattle.lines.specs.Lines.{strokeLine, lines, acceptedLine, refusedLine, lateLine}
+use Rattle.report.specs.Report.{textOf, delivered, lengthIn, reportedIn, reportedOf, answerIn}
+use Rattle.report.specs.declared.Reported.{Reported}
+
+-- ---- texts
+
+-- P's text: 141 bytes
+abbrev textP : List ℕ
+textP =
+    bytes "stroke 0 key C4 bell 0 ends 2..7 response 2..7 due 7\nstroke 1 key D5 bell 1 ends 4..6 response 4..6 due 6\naccepted strokes 2 states 4 hold 6\n"
+
+-- P with bell 0 holding for 2 or 3, and due times of 8 and 9. Level 0: twc 0; job 0 ends 2..3: {0} [2,3]; job 1, thigh 5, ends 4..4: {1} [4,4]. Level 1:
+-- {0}: twc 3; job 1 ends 6..7: [6,7]; {1}: twc 5; job 0 ends 6..8: [6,8]. They merge.
+abbrev longerHold : List ℕ
+longerHold = set (set (set fileP 12 0x03) 35 0x08) 49 0x09
+
+abbrev pub texts : List (Case (List ℕ))
+texts =
+    lent fileP 32 textP
+    ∷ lent fileP 31 (bytes "refused 13 level 1\n")
+    ∷ lent latePhrase 32 (bytes "refused 14 stroke 0 ends 6..7\n")
+    ∷ lent versionNine 32 (bytes "refused 1 at 0\n")
+    -- stroke 0 is called from 1 on
+    ∷ lent calledLater 32
+    (bytes "stroke 0 key C4 bell 0 ends 6..7 response 5..6 due 7\nstroke 1 key D5 bell 1 ends 4..4 response 4..4 due 6\naccepted strokes 2 states 3 hold 6\n")
+    -- the last line adds up the longest holds
+    ∷ lent longerHold 32
+    (bytes "stroke 0 key C4 bell 0 ends 2..8 response 2..8 due 8\nstroke 1 key D5 bell 1 ends 4..7 response 4..7 due 9\naccepted strokes 2 states 4 hold 7\n")
+    ∷ lent noStroke 8 (bytes "accepted strokes 0 states 1 hold 0\n")
+    ∷ []
+
+pub as-written : given textOf texts ≡ dues texts
+unfolding reading analysis strokeLine lines acceptedLine refusedLine lateLine sum decimalWithin
+as-written = refl
+
+-- ---- buffers
+
+-- a text of three bytes, and buffers of five, three, two and none
+abbrev three : List ℕ
+three = 1 ∷ 2 ∷ 3 ∷ []
+
+abbrev buffers : List (List ℕ)
+buffers = (9 ∷ 9 ∷ 9 ∷ 9 ∷ 9 ∷ []) ∷ (9 ∷ 9 ∷ 9 ∷ []) ∷ (9 ∷ 9 ∷ []) ∷ [] ∷ []
+
+pub left-in-them : map (delivered three) buffers ≡ (1 ∷ 2 ∷ 3 ∷ 9 ∷ 9 ∷ []) ∷ (1 ∷ 2 ∷ 3 ∷ []) ∷ (9 ∷ 9 ∷ []) ∷ [] ∷ []
+left-in-them = refl
+
+pub lengths-in-them : map (lengthIn three) buffers ≡ 3 ∷ 3 ∷ 0 ∷ 0 ∷ []
+lengths-in-them = refl
+
+-- the check's result with the length, or refusal 15 with none
+abbrev reported : Checked → ℕ → Reported
+reported r n = record { checked = r; length = n }
+
+pub results-of-them :
+    map (reportedIn (alone (Late 3 6 7)) three) buffers
+    ≡ reported (alone (Late 3 6 7)) 3 ∷ reported (alone (Late 3 6 7)) 3 ∷ reported (alone (Refused 15 0)) 0 ∷ reported (alone (Refused 15 0)) 0 ∷ []
+results-of-them = refl
+
+-- ---- reports
+
+-- a file, the length of the table and of the buffer; the result, what document 01 writes of it, and the buffer, whose bytes were 7
+pub record Report : Type 0 where
+  pub file : List ℕ
+  pub words : ℕ
+  pub room : ℕ
+  pub result : Reported
+  pub values : Values
+  pub left : List ℕ
+
+abbrev report : List ℕ → ℕ → ℕ → Reported → Values → List ℕ → Report
+report f n m r w l = record { file = f; words = n; room = m; result = r; values = w; left = l }
+
+abbrev short : List ℕ → ℕ → ℕ → Report
+short f n m = report f n m (reported (alone (Refused 15 0)) 0) (values 15 0 0 0) (replicate m 7)
+
+abbrev accepting : Checked
+accepting = record { answer = Accepted; jobs = 2; earliest = both 2 4; latest = both 7 6; best = both 2 4; worst = both 7 6; states = 4 }
+
+abbrev pub reports : List Report
+reports =
+    report fileP 32 143 (reported accepting 141) (values 0 0 0 0) (textP ++ 7 ∷ 7 ∷ [])
+    ∷ report fileP 32 141 (reported accepting 141) (values 0 0 0 0) textP
+    ∷ short fileP 32 140
+    ∷ short fileP 32 10
+    ∷ short fileP 32 0
+    -- the line of a refusal, and the same in a buffer a byte shorter
+    ∷ report fileP 31 19 (reported (alone (Refused 13 1)) 19) (values 13 1 0 0) (bytes "refused 13 level 1\n")
+    ∷ short fileP 31 18
+    ∷ report latePhrase 32 30 (reported (alone (Late 0 6 7)) 30) (values 14 0 6 7) (bytes "refused 14 stroke 0 ends 6..7\n")
+    ∷ short latePhrase 32 29
+    ∷ report versionNine 0 15 (reported (alone (Refused 1 0)) 15) (values 1 0 0 0) (bytes "refused 1 at 0\n")
+    ∷ short versionNine 0 14
+    ∷ []
+
+pub as-reported : map (λ (x : Report). reportedOf (reading (x .file)) (x .words) (replicate (x .room) 7)) reports ≡ map (λ (x : Report). x .result) reports
+unfolding reading analysis perJob strokeLine lines acceptedLine refusedLine lateLine sum decimalWithin
+as-reported = refl
+
+pub as-valued : map (λ (x : Report). valuesOf (answerIn (reading (x .file)) (x .words) (replicate (x .room) 7))) reports ≡ map (λ (x : Report). x .values) reports
+unfolding reading analysis strokeLine lines acceptedLine refusedLine lateLine sum decimalWithin
+as-valued = refl
+
+pub as-left :
+    map (λ (x : Report). delivered (textOf (reading (x .file)) (x .words)) (replicate (x .room) 7)) reports ≡ map (λ (x : Report). x .left) reports
+unfolding reading analysis strokeLine lines acceptedLine refusedLine lateLine sum decimalWithin
+as-left = refl

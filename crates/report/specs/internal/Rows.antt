@@ -1,0 +1,50 @@
+-- The text of a report, from a check's result and the table of its phrase. Assumes nothing.
+use Prim.Native.Nat.{ℕ, _≤_, _<_}
+use mathlib.Core.List.{List, _++_}
+use lib.ListN.{getD}
+use Rattle.format.specs.Rules.{lowestKey}
+use Rattle.format.specs.Layout.{mostBells}
+use Rattle.rows.specs.internal.BellRow.{mostExecutionWord}
+use Rattle.rows.specs.internal.NoteRow.{keyWord, deadlineWord, struckWord}
+use Rattle.rows.specs.internal.PhraseTable.{bellWord, noteWord}
+use Rattle.checker.specs.declared.result.Answer.{Answer}
+use Rattle.checker.specs.declared.result.Answer.the-variants.{Accepted, Refused, Late}
+use Rattle.checker.specs.declared.result.Checked.{Checked}
+use Rattle.lines.specs.Lines.{strokeLine, lines, acceptedLine, refusedLine, lateLine}
+use Rattle.model.specs.Folds.{sum}
+use Rattle.lines.specs.declared.lines.Stroke.{Stroke}
+
+-- the stroke of note i, with the bounds that these arrays hold
+abbrev pub strokeIn : List ℕ → List ℕ → List ℕ → List ℕ → List ℕ → ℕ → Stroke
+strokeIn t earliest latest best worst i =
+    record {
+      number = i;
+      key = noteWord t i keyWord;
+      bell = noteWord t i struckWord;
+      earliest = getD earliest i 0;
+      latest = getD latest i 0;
+      best = getD best i 0;
+      worst = getD worst i 0;
+      deadline = noteWord t i deadlineWord;
+    }
+
+-- the lines of k strokes
+abbrev pub strokesText : List ℕ → List ℕ → List ℕ → List ℕ → List ℕ → ℕ → List ℕ
+strokesText t earliest latest best worst = lines (λ i. strokeLine (strokeIn t earliest latest best worst i))
+
+abbrev pub holdIn : List ℕ → ℕ → ℕ
+holdIn t = sum (λ i. bellWord t (noteWord t i struckWord) mostExecutionWord)
+
+-- no key is below the lowest that a bell sounds for, and every bell that is struck has a row
+abbrev pub Keyed : List ℕ → ℕ → Type 0
+Keyed t k = (i : ℕ) → i < k → (lowestKey ≤ noteWord t i keyWord) × (noteWord t i struckWord < mostBells)
+
+abbrev pub acceptedText : Checked → List ℕ → List ℕ
+acceptedText r t =
+    strokesText t (r .earliest) (r .latest) (r .best) (r .worst) (r .jobs)
+    ++ acceptedLine (r .jobs) (r .states) (holdIn t (r .jobs))
+
+abbrev pub textIn : Answer → Checked → List ℕ → List ℕ
+textIn Accepted r t = acceptedText r t
+textIn (Refused n at) r t = refusedLine n at
+textIn (Late i e f) r t = lateLine i e f

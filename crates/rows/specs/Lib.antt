@@ -1,0 +1,3 @@
+-- A phrase in words.
+pub mod examples
+pub mod internal

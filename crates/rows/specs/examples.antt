@@ -1,0 +1,2 @@
+-- Worked examples of the definitions: tables of phrases.
+pub mod Tables

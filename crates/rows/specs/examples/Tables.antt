@@ -1,0 +1,82 @@
+-- Tables of phrases word by word, worked out by hand, and the phrases that they hold. Assumes nothing.
+use mathlib.Core.Path.{_≡_, refl}
+use mathlib.Core.List.{List, [], _∷_, _++_}
+use Prim.Native.Nat.{ℕ}
+use lib.ListN.{length, set, take, replicate}
+use Rattle.format.specs.Bytes.{records}
+use Rattle.format.specs.Outcome.{ok, refused}
+use Rattle.format.specs.Phrase.{Phrase, sounding, findFrom}
+use Rattle.format.specs.examples.Files.{bell, note, phraseP}
+use Rattle.rows.specs.internal.Rows.{rowsIn}
+use Rattle.rows.specs.internal.BellRow.{bellRow}
+use Rattle.rows.specs.internal.NoteRow.{noteRowOn}
+use Rattle.rows.specs.internal.PhraseTable.{phraseTable, phraseOf}
+
+-- ---- document 01's phrase P
+
+-- the header: version, cores, bells, notes; 96 rows of 6 words for the bells; 64 rows of 10 words for the notes
+abbrev tableP : List ℕ
+tableP =
+    (1 ∷ 1 ∷ 2 ∷ 2 ∷ [])
+    -- N, T, ca, cb, p, and the key that the bell sounds for
+    ++ (60 ∷ 0 ∷ 2 ∷ 2 ∷ 1 ∷ 60 ∷ [])
+    ++ (62 ∷ 12 ∷ 4 ∷ 4 ∷ 2 ∷ 74 ∷ [])
+    ++ replicate 564 0
+    -- key, ra, rb, d, how many jobs the note lists, four words for these, and the number of the bell that it strikes
+    ++ (60 ∷ 0 ∷ 5 ∷ 7 ∷ 0 ∷ 0 ∷ 0 ∷ 0 ∷ 0 ∷ 0 ∷ [])
+    ++ (74 ∷ 0 ∷ 0 ∷ 6 ∷ 0 ∷ 0 ∷ 0 ∷ 0 ∷ 0 ∷ 1 ∷ [])
+    ++ replicate 620 0
+
+pub p-table : phraseTable (ok phraseP) ≡ tableP
+unfolding records bellRow noteRowOn sounding findFrom
+p-table = refl
+
+pub p-held : phraseOf tableP ≡ phraseP
+unfolding rowsIn
+p-held = refl
+
+-- ---- three bells, of which two are written for 62 and one of these sounds 12 below; note 1 lists a job, note 3 lists two
+
+abbrev phraseR : Phrase
+phraseR =
+    record {
+      version = 1;
+      cores = 2;
+      bells = bell 60 0 2 2 1 ∷ bell 62 244 3 9 0 ∷ bell 62 12 4 5 2 ∷ [];
+      notes = note 74 1 2 9 [] ∷ note 50 0 5 7 (0 ∷ []) ∷ note 60 0 0 6 [] ∷ note 74 66051 263430 460809 (1 ∷ 2 ∷ []) ∷ [];
+    }
+
+abbrev tableR : List ℕ
+tableR =
+    (1 ∷ 2 ∷ 3 ∷ 4 ∷ [])
+    ++ (60 ∷ 0 ∷ 2 ∷ 2 ∷ 1 ∷ 60 ∷ [])
+    ++ (62 ∷ 244 ∷ 3 ∷ 9 ∷ 0 ∷ 50 ∷ [])
+    ++ (62 ∷ 12 ∷ 4 ∷ 5 ∷ 2 ∷ 74 ∷ [])
+    ++ replicate 558 0
+    ++ (74 ∷ 1 ∷ 2 ∷ 9 ∷ 0 ∷ 0 ∷ 0 ∷ 0 ∷ 0 ∷ 2 ∷ [])
+    ++ (50 ∷ 0 ∷ 5 ∷ 7 ∷ 1 ∷ 0 ∷ 0 ∷ 0 ∷ 0 ∷ 1 ∷ [])
+    ++ (60 ∷ 0 ∷ 0 ∷ 6 ∷ 0 ∷ 0 ∷ 0 ∷ 0 ∷ 0 ∷ 0 ∷ [])
+    ++ (74 ∷ 66051 ∷ 263430 ∷ 460809 ∷ 2 ∷ 1 ∷ 2 ∷ 0 ∷ 0 ∷ 2 ∷ [])
+    ++ replicate 600 0
+
+pub r-table : phraseTable (ok phraseR) ≡ tableR
+unfolding records bellRow noteRowOn sounding findFrom
+r-table = refl
+
+pub r-held : phraseOf tableR ≡ phraseR
+unfolding rowsIn
+r-held = refl
+
+-- the header says how many rows are read: with one bell and two notes counted, these are the first
+pub fewer-held : phraseOf (set (set tableR 2 1) 3 2)
+    ≡ record { version = 1; cores = 2; bells = take 1 (phraseR .bells); notes = take 2 (phraseR .notes) }
+unfolding rowsIn
+fewer-held = refl
+
+-- ---- a refusal: zeros only, and as many
+
+pub refused-table : phraseTable (refused 12 36) ≡ replicate 1220 0
+refused-table = refl
+
+pub table-lengths : length tableP ∷ length tableR ∷ [] ≡ 1220 ∷ 1220 ∷ []
+table-lengths = refl
