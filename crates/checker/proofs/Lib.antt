@@ -1,7 +1,4 @@
--- How the reader's rows come to the analysis, how its verdict becomes the result, what an accepted result promises, and which numbers are written.
-pub mod PerJob
+-- How the reader's rows come to the analysis, and how its words become the result.
 pub mod Accepted
 pub mod Results
 pub mod Readings
-pub mod Promise
-pub mod Refusals

@@ -17,7 +17,7 @@ use Rattle.rows.proofs.PhraseTable.{few-notes, header-word, phrase-of}
 use Rattle.jobs.specs.internal.JobRow.{jobsOfRows, Setting}
 use Rattle.jobs.specs.internal.JobTable.{jobTable}
 use Rattle.jobs.proofs.JobRow.{jobs-length, phrase-jobs, setting}
-use Rattle.checker.specs.Checking.{levelWords, usedWords, resultOf, checkedOf}
+use Rattle.checking.specs.Checking.{levelWords, usedWords, resultOf, checkedOf}
 use Rattle.checker.specs.internal.Finishes.{analysedOf}
 
 module _ (t : List ℕ) (h : HandedOn t) (rows before : List ℕ) (made : rows ≡ jobTable (phraseOf t) before) (m k : ℕ)

@@ -1,7 +1,6 @@
--- The result of an accepting analysis, from the words, and back to the bounds. Assumes nothing.
+-- The result of an accepting analysis, from the words. Assumes nothing.
 use Prim.Native.Nat.{ℕ, _+_, _-_, _≤_, _<_}
-use mathlib.Core.Path.{_≡_, refl, sym, ap, _∙_}
-use mathlib.Core.Bool.{true, false≢true}
+use mathlib.Core.Path.{_≡_, sym, ap, _∙_}
 use mathlib.Core.List.{List}
 use native.Mathlib.Nat.{zero-add}
 use native.Mathlib.Omega.{arith}
@@ -10,21 +9,17 @@ use lib.Seq.{length-take-le, getD-take, getD-drop}
 use borrow.Author.Tests.{ne-eqb}
 use Rattle.model.specs.Limits.{mostJobs}
 use Rattle.model.specs.Jobs.{Job, job}
-use Rattle.model.specs.States.{Range, empty, range, isRange, earliest, latest}
+use Rattle.model.specs.States.{Range, empty, range, earliest, latest}
 use Rattle.model.specs.Exploration.{accepted}
-use Rattle.words.proofs.Tabulate.{tabulate-is}
 use Rattle.jobs.specs.internal.JobRow.{jobsOfRows}
 use Rattle.jobs.proofs.Jobs.{length-jobs}
 use Rattle.steps.specs.internal.Observed.{observedOf}
 use Rattle.steps.proofs.Ranges.{observed-at}
-use Rattle.checker.specs.Checking.{perJob, resultOf, boundOf, boundsOf}
+use Rattle.checking.specs.Checking.{perJob, resultOf}
 use Rattle.checker.specs.internal.Finishes.{releaseOf, responseOf, Released, FinishesObserved}
-use Rattle.checker.specs.declared.result.Answer.the-variants.{Accepted}
-use Rattle.checker.specs.declared.result.Checked.{Checked}
-use Rattle.checker.proofs.PerJob.{per-job-at, per-job-is, per-job-ext}
-use Rattle.checker.proofs.Accepted.{Reported}
-
--- ---- from the words
+use Rattle.checking.specs.declared.Answer.the-variants.{Accepted}
+use Rattle.checking.specs.declared.Checked.{Checked}
+use Rattle.checking.proofs.PerJob.{per-job-is, per-job-ext}
 
 module _ (rows : List ℕ) (k : ℕ) (seen : List ℕ) (h : FinishesObserved rows k seen) where
   abbrev js : List Job
@@ -96,19 +91,3 @@ module _ (rows : List ℕ) (k : ℕ) (seen : List ℕ) (h : FinishesObserved row
       let r₁ = r ∙ ap (λ z. perJob k (responseOf rows k z)) p ∙ response-words 0 earliest low earliest-here earliest-beyond in
       let t₁ = t ∙ ap (λ z. perJob k (responseOf rows k z)) q ∙ response-words mostJobs latest high latest-here latest-beyond in
       λ n. record { answer = Accepted; jobs = j n; earliest = p₁ n; latest = q₁ n; best = r₁ n; worst = t₁ n; states = c }
-
--- ---- back to the bounds
-
-from-ends : (r : Range) → isRange r ≡ true → range (earliest r) (latest r) ≡ r
-from-ends empty e = absurd (false≢true e)
-from-ends (range e f) q = refl
-
--- An accepted result's bounds are the analysis's.
-pub bounds-back : (js : List Job) (d : ℕ) (bounds : List Range) (c : ℕ) → length js ≤ mostJobs → Reported js d bounds → boundsOf (resultOf js (accepted bounds c)) ≡ bounds
-unfolding boundsOf
-bounds-back js d bounds c few given =
-    tabulate-is (boundOf (resultOf js (accepted bounds c))) (length js) bounds empty (given .all-jobs)
-    (λ i b.
-    (λ n.
-    range (per-job-at (length js) (λ i. earliest (getD bounds i empty)) few i b n) (per-job-at (length js) (λ i. latest (getD bounds i empty)) few i b n))
-    ∙ from-ends (getD bounds i empty) (given .ranged i b))

@@ -1,4 +1,2 @@
--- The check of a phrase file: its verdict, the result that carries it, and the promise about every run.
-pub mod Checking
-pub mod examples
+-- The check in code.
 pub mod internal

@@ -1,6 +1,5 @@
 // A phrase file checked over a lent table.
 mod accepting;
-mod result;
 
 ghost use mathlib.Core.Path.{_≡_};
 ghost use lib.ListN.{length, drop};
@@ -9,14 +8,14 @@ ghost use Rattle.format.specs.Outcome.{ok};
 ghost use Rattle.format.specs.Reading.{reading};
 ghost use Rattle.rows.specs.internal.PhraseTable.{phraseTable, phraseOf, HandedOn};
 ghost use Rattle.jobs.specs.internal.JobRow.{jobsOfRows, Setting};
-ghost use Rattle.checker.specs.Checking.{verdict, levelWords, TableKept, checkedOf, answerFor, valuesOf, RunsKept};
+ghost use Rattle.checking.specs.Checking.{verdict, levelWords, TableKept, checkedOf, answerFor, valuesOf, RunsKept};
 ghost use Rattle.checker.specs.internal.Finishes.{analysedOf};
 use crate::accepting::accepting;
-pub use crate::result::Answer;
-pub use crate::result::Checked;
-pub use crate::result::refused;
 use analysis::levels::Analysed;
 use analysis::levels::analyse;
+pub use checking::Answer;
+pub use checking::Checked;
+use checking::refused;
 use jobs::row::JOB_TABLE;
 use jobset::write_jobs;
 use model::limits::MOST_JOBS;

@@ -4,7 +4,7 @@ use Rattle.model.specs.Exploration.{analysis}
 use Rattle.model.proofs.Example.{kept}
 use Rattle.format.specs.Reading.{reading}
 use Rattle.format.specs.examples.Files.{fileP}
-use Rattle.checker.specs.Checking.{verdict, Playable}
+use Rattle.checking.specs.Checking.{verdict, Playable}
 use Rattle.phrase.specs.Host.{tableWords}
 
 -- Phrase P is playable as it is checked over a table of its own.

@@ -13,10 +13,10 @@ use Rattle.format.specs.Reading.{reading}
 use Rattle.format.specs.Outcome.{refused as unread}
 use Rattle.format.specs.Bytes.{AreBytes}
 use Rattle.format.proofs.Refusals.{refused-within as unread-within}
-use Rattle.checker.specs.Checking.{capacityFor, verdict, answerFor, Values, valuesOf}
-use Rattle.checker.specs.declared.result.Answer.the-variants.{Accepted}
+use Rattle.checking.specs.Checking.{capacityFor, verdict, answerFor, Values, valuesOf}
+use Rattle.checking.specs.declared.Answer.the-variants.{Accepted}
 use Rattle.format.proofs.First.{first-bytes}
-use Rattle.checker.proofs.Refusals.{place-within}
+use Rattle.checking.proofs.Refusals.{place-within}
 use Rattle.phrase.specs.Host.{places, numberOf, numberFor}
 
 module _ (file : List ℕ) (bytes : AreBytes file) (words : ℕ) where

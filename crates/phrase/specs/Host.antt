@@ -2,7 +2,7 @@
 use Prim.Native.Nat.{ℕ, _+_, _*_}
 use Rattle.format.specs.Phrase.{Phrase}
 use Rattle.format.specs.Outcome.{Outcome}
-use Rattle.checker.specs.Checking.{verdict, answerFor, Values, valuesOf}
+use Rattle.checking.specs.Checking.{verdict, answerFor, Values, valuesOf}
 
 -- the words of a table of its own
 abbrev pub tableWords : ℕ

@@ -3,11 +3,11 @@ ghost use mathlib.Core.Path.{_≡_};
 ghost use Prim.Native.Nat.{_<_};
 ghost use lib.ListN.{length};
 ghost use Rattle.format.specs.Reading.{reading};
-ghost use Rattle.checker.specs.Checking.{verdict, TableKept, valuesOf, Playable};
+ghost use Rattle.checking.specs.Checking.{verdict, TableKept, valuesOf, Playable};
 ghost use Rattle.report.specs.Report.{textOf, delivered, lengthIn};
 ghost use Rattle.phrase.specs.Host.{tableWords, places, numberOf, numberFor};
-use checker::Answer;
 use checker::check;
+use checking::Answer;
 use model::refusals::LATE_JOB;
 use report::report;
 

@@ -1,6 +1,6 @@
 // What the example programs share: how words and the result of a check are printed, and how examples stand in their input.
-use checker::Answer;
-use checker::Checked;
+use checking::Answer;
+use checking::Checked;
 use libc::STDOUT_FILENO;
 ghost use Prim.Native.Nat.{_+_, _≤_, _<_};
 ghost use lib.ListN.{length};

@@ -9,10 +9,10 @@ use lib.ListN.{length}
 use borrow.Author.Tests.{le-leb, lt-leb, leb-true, leb-false}
 use Rattle.model.specs.Refusals.{shortBuffer}
 use Rattle.words.specs.internal.Placed.{placed}
-use Rattle.checker.specs.Checking.{refusing}
-use Rattle.checker.specs.declared.result.Answer.{Answer}
-use Rattle.checker.specs.declared.result.Answer.the-variants.{Accepted, Refused}
-use Rattle.checker.specs.declared.result.Checked.{Checked}
+use Rattle.checking.specs.Checking.{refusing}
+use Rattle.checking.specs.declared.Answer.{Answer}
+use Rattle.checking.specs.declared.Answer.the-variants.{Accepted, Refused}
+use Rattle.checking.specs.declared.Checked.{Checked}
 use Rattle.report.specs.Report.{fits, delivered, lengthIn, reportedIn}
 use Rattle.report.specs.declared.Reported.{Reported}
 

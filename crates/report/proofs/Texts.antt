@@ -26,9 +26,9 @@ use Rattle.rows.specs.internal.PhraseTable.{phraseTable, bellWord, noteWord}
 use Rattle.rows.proofs.NoteRow.{row-words}
 use Rattle.rows.proofs.PhraseTable.{few-bells, few-notes, few-listed, struck-below, bell-word, note-word}
 use Rattle.jobs.proofs.JobRow.{jobs-length}
-use Rattle.checker.specs.Checking.{verdict, perJob, resultOf, checkedOf}
-use Rattle.checker.specs.declared.result.Checked.{Checked}
-use Rattle.checker.proofs.PerJob.{per-job-at}
+use Rattle.checking.specs.Checking.{verdict, perJob, resultOf, checkedOf}
+use Rattle.checking.specs.declared.Checked.{Checked}
+use Rattle.checking.proofs.PerJob.{per-job-at}
 use Rattle.lines.specs.Lines.{labelled, strokeLine, lines, acceptedLine, refusedLine, lateLine}
 use Rattle.report.specs.Report.{strokeOf, holdOf, textFor, textOf}
 use Rattle.report.specs.internal.Rows.{strokeIn, holdIn, Keyed, acceptedText, textIn}

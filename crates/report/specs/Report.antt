@@ -14,10 +14,10 @@ use Rattle.format.specs.Phrase.{Phrase}
 use Rattle.format.specs.Jobs.{note, jobsOf}
 use Rattle.format.specs.Outcome.{Outcome, ok}
 use Rattle.format.specs.Outcome.{refused as unread}
-use Rattle.checker.specs.Checking.{verdict, refusing, checkedOf, answerFor}
-use Rattle.checker.specs.declared.result.Answer.{Answer}
-use Rattle.checker.specs.declared.result.Answer.the-variants.{Refused}
-use Rattle.checker.specs.declared.result.Checked.{Checked}
+use Rattle.checking.specs.Checking.{verdict, refusing, checkedOf, answerFor}
+use Rattle.checking.specs.declared.Answer.{Answer}
+use Rattle.checking.specs.declared.Answer.the-variants.{Refused}
+use Rattle.checking.specs.declared.Checked.{Checked}
 use Rattle.lines.specs.Lines.{strokeLine, lines, acceptedLine, refusedLine, lateLine}
 use Rattle.lines.specs.declared.lines.Stroke.{Stroke}
 use Rattle.report.specs.declared.Reported.{Reported}

@@ -7,7 +7,7 @@ ghost use Rattle.text.specs.internal.Written.{Room, Written};
 ghost use Rattle.lines.specs.internal.Longest.{longestStroke};
 ghost use Rattle.report.specs.internal.Longest.{longestText};
 ghost use Rattle.report.specs.internal.Rows.{strokeIn, strokesText, holdIn, Keyed, acceptedText};
-use checker::Checked;
+use checking::Checked;
 use lines::lengths::last_length;
 use lines::lengths::stroke_length;
 use lines::lines::Stroke;

@@ -5,8 +5,8 @@ use lib.ListN.{length}
 use denote.Ref.{now}
 use borrow.Author.Needs.{needs}
 use Rattle.format.specs.Reading.{reading}
-use Rattle.checker.specs.Checking.{valuesOf}
-use Rattle.checker.proofs.Promise.{runs-kept, answer-is}
+use Rattle.checking.specs.Checking.{valuesOf}
+use Rattle.checking.proofs.Promise.{runs-kept, answer-is}
 use Rattle.checker.proofs.check.Statement.{statement}
 use Rattle.checker.proofs.check.Tie as tie
 

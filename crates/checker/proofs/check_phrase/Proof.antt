@@ -10,7 +10,7 @@ use Rattle.format.specs.Bytes.{AreBytes}
 use Rattle.format.specs.Reading.{reading}
 use Rattle.reader.proofs.Outcomes.{was-refused}
 use Rattle.reader.proofs.Handing.{handed-on, phrase-read}
-use Rattle.checker.specs.Checking.{usedWords, checkedOf}
+use Rattle.checking.specs.Checking.{usedWords, checkedOf}
 use Rattle.checker.proofs.check_phrase.Statement.{statement}
 use Rattle.checker.proofs.check_phrase.Tie as tie
 

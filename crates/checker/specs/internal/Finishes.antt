@@ -7,8 +7,8 @@ use Rattle.model.specs.Jobs.{job}
 use Rattle.model.specs.Exploration.{analysis, capacity}
 use Rattle.jobs.specs.internal.JobRow.{jobsOfRows, Rows}
 use Rattle.steps.specs.internal.Observed.{Observed}
-use Rattle.checker.specs.Checking.{resultOf}
-use Rattle.checker.specs.declared.result.Checked.{Checked}
+use Rattle.checking.specs.Checking.{resultOf}
+use Rattle.checking.specs.declared.Checked.{Checked}
 
 -- the earliest release of job i
 abbrev pub releaseOf : List ℕ → ℕ → ℕ → ℕ

@@ -1,7 +1,7 @@
 -- `number` meets its contract. Assumes nothing.
 use mathlib.Core.Path.{sym, ap}
 use native.Mathlib.Omega.{arith}
-use Rattle.checker.specs.Checking.{valuesOf}
+use Rattle.checking.specs.Checking.{valuesOf}
 use Rattle.phrase.specs.Host.{numberOf}
 use borrow.Author.Needs.{needs}
 use Rattle.phrase.proofs.number.Statement.{statement}

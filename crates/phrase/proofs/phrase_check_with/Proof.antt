@@ -4,7 +4,7 @@ use native.Mathlib.Omega.{arith}
 use lib.ListN.{length}
 use denote.Ref.{now}
 use Rattle.format.specs.Bytes.{AreBytes}
-use Rattle.checker.proofs.Promise.{playable}
+use Rattle.checking.proofs.Promise.{playable}
 use Rattle.phrase.specs.Host.{numberOf}
 use Rattle.phrase.proofs.Numbers.{place-apart, zero-accepts}
 use borrow.Author.Needs.{needs}

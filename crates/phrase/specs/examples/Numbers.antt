@@ -5,7 +5,7 @@ use mathlib.Core.List.{List, [], _∷_, map}
 use Rattle.model.specs.Exploration.{analysis}
 use Rattle.format.specs.Reading.{reading}
 use Rattle.format.specs.examples.Files.{fileP}
-use Rattle.checker.specs.examples.Checks.{versionNine, byteRemains, latePhrase, Case, lent, dues, given, values}
+use Rattle.checking.specs.examples.Checks.{versionNine, byteRemains, latePhrase, Case, lent, dues, given, values}
 use Rattle.phrase.specs.Host.{tableWords, places, numberOf, numberFor}
 
 -- a table of 16,384 words, and two to the 32nd places

@@ -6,7 +6,7 @@ use lib.ListN.{length, replicate}
 use denote.Ref.{now}
 use lib.Seq.{length-take-le}
 use Rattle.format.specs.Reading.{reading}
-use Rattle.checker.specs.Checking.{checkedOf}
+use Rattle.checking.specs.Checking.{checkedOf}
 use Rattle.report.specs.Report.{textOf}
 use Rattle.phrase.specs.Host.{tableWords}
 use Rattle.report.proofs.Delivery.{length-within}

@@ -8,8 +8,8 @@ use denote.Ref.{now}
 use borrow.Author.Needs.{needs}
 use Rattle.format.specs.Reading.{reading}
 use Rattle.format.specs.Bytes.{AreBytes}
-use Rattle.checker.specs.Checking.{verdict, answerFor, valuesOf}
-use Rattle.checker.proofs.Promise.{runs-kept, answer-is}
+use Rattle.checking.specs.Checking.{verdict, answerFor, valuesOf}
+use Rattle.checking.proofs.Promise.{runs-kept, answer-is}
 use Rattle.report.specs.Report.{fits, textOf, delivered, reportedIn}
 use Rattle.report.specs.declared.Reported.{Reported}
 use Rattle.report.proofs.Delivery.{reported-answer, reported-accepted}

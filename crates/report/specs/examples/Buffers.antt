@@ -10,10 +10,10 @@ use Rattle.format.specs.Reading.{reading}
 use Rattle.format.specs.examples.Files.{fileP}
 use Rattle.text.specs.Bytes.{bytes}
 use Rattle.text.specs.Decimal.{decimalWithin}
-use Rattle.checker.specs.Checking.{perJob, Values, valuesOf}
-use Rattle.checker.specs.examples.Checks.{versionNine, latePhrase, calledLater, noStroke, Case, lent, dues, given, alone, both, values}
-use Rattle.checker.specs.declared.result.Answer.the-variants.{Accepted, Refused, Late}
-use Rattle.checker.specs.declared.result.Checked.{Checked}
+use Rattle.checking.specs.Checking.{perJob, Values, valuesOf}
+use Rattle.checking.specs.examples.Checks.{versionNine, latePhrase, calledLater, noStroke, Case, lent, dues, given, alone, both, values}
+use Rattle.checking.specs.declared.Answer.the-variants.{Accepted, Refused, Late}
+use Rattle.checking.specs.declared.Checked.{Checked}
 use Rattle.lines.specs.Lines.{strokeLine, lines, acceptedLine, refusedLine, lateLine}
 use Rattle.report.specs.Report.{textOf, delivered, lengthIn, reportedIn, reportedOf, answerIn}
 use Rattle.report.specs.declared.Reported.{Reported}

@@ -7,9 +7,9 @@ use Rattle.format.specs.Layout.{mostBells}
 use Rattle.rows.specs.internal.BellRow.{mostExecutionWord}
 use Rattle.rows.specs.internal.NoteRow.{keyWord, deadlineWord, struckWord}
 use Rattle.rows.specs.internal.PhraseTable.{bellWord, noteWord}
-use Rattle.checker.specs.declared.result.Answer.{Answer}
-use Rattle.checker.specs.declared.result.Answer.the-variants.{Accepted, Refused, Late}
-use Rattle.checker.specs.declared.result.Checked.{Checked}
+use Rattle.checking.specs.declared.Answer.{Answer}
+use Rattle.checking.specs.declared.Answer.the-variants.{Accepted, Refused, Late}
+use Rattle.checking.specs.declared.Checked.{Checked}
 use Rattle.lines.specs.Lines.{strokeLine, lines, acceptedLine, refusedLine, lateLine}
 use Rattle.model.specs.Folds.{sum}
 use Rattle.lines.specs.declared.lines.Stroke.{Stroke}

@@ -4,9 +4,9 @@ use mathlib.Core.Path.{_≡_, ap, _∙_}
 use native.Mathlib.Omega.{arith}
 use lib.ListN.{getD, set}
 use denote.Ref.{now}
-use Rattle.checker.specs.Checking.{perJob}
+use Rattle.checking.specs.Checking.{perJob}
 use Rattle.checker.specs.internal.Finishes.{responseOf}
-use Rattle.checker.proofs.PerJob.{per-job-none, per-job-more}
+use Rattle.checking.proofs.PerJob.{per-job-none, per-job-more}
 use Rattle.checker.proofs.accepting.responses.Statement.{statement}
 use Rattle.checker.proofs.accepting.responses.Tie as tie
 

@@ -1,6 +1,6 @@
-// The result of a check.
+// What a check answers: its result, in code. specs/ has the verdict, the result that carries it, and what is promised of both.
 ghost use mathlib.Core.Path.{_≡_};
-ghost use Rattle.checker.specs.Checking.{refusing};
+ghost use Rattle.checking.specs.Checking.{refusing};
 use model::limits::MOST_JOBS;
 
 // Refusals with their number and place; a late job with its finish times.

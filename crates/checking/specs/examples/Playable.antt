@@ -1,6 +1,6 @@
 -- Phrases that are not playable, worked out by hand. Assumes nothing.
 use Prim.Native.Nat.{ℕ}
-use mathlib.Core.List.{List, [], _∷_}
+use mathlib.Core.List.{[], _∷_}
 use Rattle.model.specs.States.{range}
 use Rattle.model.specs.Exploration.{accepted, refused, late}
 use Rattle.model.specs.Exploration.{Verdict}
@@ -10,7 +10,7 @@ use Rattle.format.specs.Outcome.{ok}
 use Rattle.format.specs.Reading.{reading}
 use Rattle.format.specs.Outcome.{refused as unread}
 use Rattle.format.specs.examples.Files.{fileP}
-use Rattle.checker.specs.Checking.{Playable}
+use Rattle.checking.specs.Checking.{Playable}
 
 -- a file that was not read, whatever the verdict
 pub unread-not : (n at : ℕ) (v : Verdict) → Playable (unread n at) v → ⊥

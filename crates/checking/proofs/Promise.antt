@@ -21,11 +21,11 @@ use Rattle.format.proofs.Theorems.{sound}
 use Rattle.format.proofs.Jobs.{analysable}
 use Rattle.rows.proofs.PhraseTable.{few-notes}
 use Rattle.jobs.proofs.JobRow.{jobs-length, timed}
-use Rattle.checker.specs.Checking.{capacityFor, verdict, resultOf, jobsRead, checkedOf, answerFor, boundsOf, Playable, RunsKept}
-use Rattle.checker.specs.declared.result.Answer.the-variants.{Accepted}
-use Rattle.checker.specs.declared.result.Checked.{Checked}
-use Rattle.checker.proofs.Accepted.{reported}
-use Rattle.checker.proofs.Results.{bounds-back}
+use Rattle.checking.specs.Checking.{capacityFor, verdict, resultOf, jobsRead, checkedOf, answerFor, boundsOf, Playable, RunsKept}
+use Rattle.checking.specs.declared.Answer.the-variants.{Accepted}
+use Rattle.checking.specs.declared.Checked.{Checked}
+use Rattle.checking.proofs.Accepted.{reported}
+use Rattle.checking.proofs.Bounds.{bounds-back}
 
 -- A phrase that was read can be analysed.
 pub can-analyse : (file : List ℕ) → AreBytes file → (x : Phrase) → reading file ≡ ok x → Analysable x

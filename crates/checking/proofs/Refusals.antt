@@ -18,8 +18,8 @@ use Rattle.format.specs.Outcome.{refused as unread}
 use Rattle.format.specs.Bytes.{AreBytes}
 use Rattle.format.proofs.First.{first-bytes}
 use Rattle.format.proofs.Refusals.{refused-within as unread-within}
-use Rattle.checker.specs.Checking.{capacityFor, verdict, answerFor, valuesOf}
-use Rattle.checker.proofs.Promise.{few-jobs}
+use Rattle.checking.specs.Checking.{capacityFor, verdict, answerFor, valuesOf}
+use Rattle.checking.proofs.Promise.{few-jobs}
 
 -- a level, or a job
 analysed-place : (js : List Job) (m cap : ℕ) → length js ≤ mostJobs → (v : Verdict) → analysis js m cap ≡ v → valuesOf (answerFor v) .place ≤ mostJobs

@@ -10,10 +10,10 @@ use Rattle.format.specs.Phrase.{Phrase}
 use Rattle.format.specs.Outcome.{Outcome}
 use Rattle.format.specs.Reading.{reading}
 use Rattle.format.specs.examples.Files.{fileP}
-use Rattle.checker.specs.Checking.{verdict, usedWords, perJob, checkedOf, answerFor, Values, valuesOf, boundsOf}
-use Rattle.checker.specs.declared.result.Answer.{Answer}
-use Rattle.checker.specs.declared.result.Answer.the-variants.{Accepted, Refused, Late}
-use Rattle.checker.specs.declared.result.Checked.{Checked}
+use Rattle.checking.specs.Checking.{verdict, usedWords, perJob, checkedOf, answerFor, Values, valuesOf, boundsOf}
+use Rattle.checking.specs.declared.Answer.{Answer}
+use Rattle.checking.specs.declared.Answer.the-variants.{Accepted, Refused, Late}
+use Rattle.checking.specs.declared.Checked.{Checked}
 
 -- ---- files
 

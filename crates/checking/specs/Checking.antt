@@ -17,9 +17,9 @@ use Rattle.format.specs.Phrase.{Phrase}
 use Rattle.format.specs.Jobs.{jobsOf}
 use Rattle.format.specs.Outcome.{Outcome, ok}
 use Rattle.format.specs.Outcome.{refused as unread}
-use Rattle.checker.specs.declared.result.Answer.{Answer}
-use Rattle.checker.specs.declared.result.Answer.the-variants.{Accepted, Refused, Late}
-use Rattle.checker.specs.declared.result.Checked.{Checked}
+use Rattle.checking.specs.declared.Answer.{Answer}
+use Rattle.checking.specs.declared.Answer.the-variants.{Accepted, Refused, Late}
+use Rattle.checking.specs.declared.Checked.{Checked}
 
 -- ---- the verdict, for a reading and a table of so many words
 

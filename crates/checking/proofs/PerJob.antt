@@ -15,7 +15,7 @@ use Rattle.model.proofs.Folds.{getD-same}
 use Rattle.words.specs.Tabulate.{tabulate}
 use Rattle.words.proofs.Tabulate.{length-tabulate, getD-tabulate, tabulate-ext}
 use Rattle.words.specs.Padded.{padded}
-use Rattle.checker.specs.Checking.{perJob}
+use Rattle.checking.specs.Checking.{perJob}
 
 module _ (k : ℕ) (f : ℕ → ℕ) (few : k ≤ mostJobs) where
   abbrev zeros : List ℕ
