@@ -15,7 +15,7 @@
  * - file is only read. Nothing before a buffer's start or past its length is read or written.
  * - There is no state between calls and none is shared, so calls may run at the same time, on different tables and texts.
  * - A stack of 128 KiB suffices. Measured by tests/host/stack.c, as the part of a painted stack that the call changed, and no more for any phrase that was
- *   tried: phrase_check takes 94 KiB, phrase_report 96, with a lent table 30 and 32. A program that binds memcpy and memset
+ *   tried: phrase_check takes 86 KiB, phrase_report 88, with a lent table 22 and 24. A program that binds memcpy and memset
  *   only when they are first called (-Wl,-z,lazy) needs up to 4 KiB more in that call.
  */
 #ifndef PHRASE_H

@@ -52,10 +52,10 @@ static const struct call {
     void (*make)(void);
     unsigned stated;
 } calls[] = {
-    {"phrase_check", check, 94},
-    {"phrase_report", report, 96},
-    {"phrase_check_with", check_with, 30},
-    {"phrase_report_with", report_with, 32},
+    {"phrase_check", check, 86},
+    {"phrase_report", report, 88},
+    {"phrase_check_with", check_with, 22},
+    {"phrase_report_with", report_with, 24},
 };
 enum { CALLS = sizeof calls / sizeof *calls, STATED_BINDING = 4, STATED_ALL = 128 };
 

@@ -45,7 +45,7 @@ pub struct Level {
 pub fn build_level(
     table: &mut [u32],
     seen: &mut [u32],
-    heads: &mut [usize],
+    heads: &mut [u32],
     rows: &[u32],
     sets: &[u64],
     shape: Shape,
@@ -72,10 +72,10 @@ pub fn build_level(
     let to = level.to;
     let w = state_words(m, k);
     let end = to + cap * w;
+    let mut cur = [0u32; MOST_STATE_WORDS];
     let mut built = 0;
     let mut j = 0;
     while j < n {
-        let mut cur = [0u32; MOST_STATE_WORDS];
         let at = from + j * w;
         let next = at + w;
         load_state(&mut cur, &table[at..next], m, k);
@@ -118,7 +118,7 @@ pub fn build_levels(table: &mut [u32], seen: &mut [u32], rows: &[u32], shape: Sh
     let mut n = 1;
     let mut count = 1u64;
     let mut depth = 0;
-    let mut heads = [0usize; BUCKETS];
+    let mut heads = [0u32; BUCKETS];
     while depth < k {
         let level = Level {
             from,

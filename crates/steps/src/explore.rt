@@ -32,7 +32,7 @@ pub struct Candidate {
 pub fn follow(
     half: &mut [u32],
     seen: &mut [u32],
-    heads: &mut [usize],
+    heads: &mut [u32],
     n: usize,
     rows: &[u32],
     cur: &[u32],
@@ -61,7 +61,7 @@ pub fn follow(
 pub fn try_job(
     half: &mut [u32],
     seen: &mut [u32],
-    heads: &mut [usize],
+    heads: &mut [u32],
     n: usize,
     rows: &[u32],
     cur: &[u32],
@@ -95,7 +95,7 @@ pub fn try_job(
 pub fn try_jobs(
     half: &mut [u32],
     seen: &mut [u32],
-    heads: &mut [usize],
+    heads: &mut [u32],
     n: usize,
     rows: &[u32],
     cur: &[u32],
@@ -131,7 +131,7 @@ pub fn try_jobs(
 pub fn try_state(
     half: &mut [u32],
     seen: &mut [u32],
-    heads: &mut [usize],
+    heads: &mut [u32],
     n: usize,
     rows: &[u32],
     sets: &[u64],

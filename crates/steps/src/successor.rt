@@ -38,7 +38,7 @@ pub fn write_successor(new: &mut [u32], cur: &[u32], m: usize, k: usize, start: 
 // Stores the state that follows `cur` in the half, which holds n states and has an index.
 pub fn store_successor(
     half: &mut [u32],
-    heads: &mut [usize],
+    heads: &mut [u32],
     n: usize,
     cur: &[u32],
     shape: Shape,

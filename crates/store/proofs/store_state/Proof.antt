@@ -33,7 +33,7 @@ first-of-requires c κs =
       a .pre .0,
       a .pre .1,
       omega (arith, a .pre .2, mul-le-mul-right (stateWords (a .args .m) (a .args .k)) (a .pre .3)),
-      omega (arith, bucket (c .before .before), bucket-inside (setOf (now (a .args .new)))),
+      c .before .before .bucket-of .ensures,
       a .pre .7,
     )
 
@@ -42,7 +42,7 @@ abbrev entry-searched : tie.After-first-of → tie.Start
 entry-searched c = c .before .before .before .before .before .before .before .before
 
 -- the first state of its bucket
-first : (c : tie.After-first-of) → FirstOf (entry-searched c .args .m) (entry-searched c .args .k) (now (entry-searched c .args .half)) (entry-searched c .args .n) (now (entry-searched c .args .heads)) (bucketOf (setOf (now (entry-searched c .args .new)))) (c .first-of .result)
+first : (c : tie.After-first-of) → FirstOf (entry-searched c .args .m) (entry-searched c .args .k) (now (entry-searched c .args .half)) (entry-searched c .args .n) (bucketOf (setOf (now (entry-searched c .args .new)))) (c .first-of .result)
 first c = rw (bucket (c .before .before .before)) at (c .first-of .ensures)
 
 find-merging-requires : tie.Need-find-merging-requires
@@ -55,7 +55,7 @@ find-merging-requires c κs =
       a .pre .5,
       a .pre .6,
       c .before .first-of .ensures .inside,
-      none-merges (a .args .m) (a .args .k) (now (a .args .half)) (now (a .args .new)) (a .args .n) (now (a .args .heads)) (c .before .first-of .result) (a .pre .5) (a .pre .6) (first (c .before)),
+      none-merges (a .args .m) (a .args .k) (now (a .args .half)) (now (a .args .new)) (a .args .n) (a .pre .5) (a .pre .6) (c .before .first-of .result) (first (c .before)),
     )
 
 -- the words on entry
@@ -105,14 +105,17 @@ put-at-requires c κs =
     let a = c .before .before .before .before .before .before .before .before .before .before .before .before .before in
     (a .pre .0, a .pre .1, omega (arith, a .pre .2, slot-fits (a .args .n) (a .args .cap) (stateWords (a .args .m) (a .args .k)) (c .before .if2 .taken)), a .pre .4)
 
+head-of-requires : tie.Need-head-of-requires
+head-of-requires c κs = search needs
+
 mul-heads : tie.Need-mul-heads
-mul-heads c = search needs
+mul-heads c = omega (arith, bucket (c .before .before .before .before .before .before .before .before .before .before .before .before), bucket-inside (setOf (now (c .before .before .before .before .before .before .before .before .before .before .before .before .before .before .before .before .before .args .new))))
 
 slice-write-heads : tie.Need-slice-write-heads
-slice-write-heads c = omega (arith, bucket (c .before .before .before .before .before .before .before .before .before .before .before), bucket-inside (setOf (now (c .before .before .before .before .before .before .before .before .before .before .before .before .before .before .before .before .args .new))), c .before .before .before .before .before .before .before .before .before .before .before .before .before .before .before .before .pre .7 .long)
+slice-write-heads c = omega (arith, bucket (c .before .before .before .before .before .before .before .before .before .before .before .before), bucket-inside (setOf (now (c .before .before .before .before .before .before .before .before .before .before .before .before .before .before .before .before .before .args .new))), c .before .before .before .before .before .before .before .before .before .before .before .before .before .before .before .before .before .pre .7 .long)
 
-add-t25 : tie.Need-add-t25
-add-t25 c = search needs
+add-t26 : tie.Need-add-t26
+add-t26 c = search needs
 
 same-length-3 : tie.Need-same-length-3
 same-length-3 c = search needs
@@ -122,16 +125,16 @@ same-length-4 c = search needs
 
 returns-2 : tie.Need-returns-2
 returns-2 c =
-    let a = c .before .before .before .before .before .before .before .before .before .before .before .before .before .before .before .before in
-    let x = c .before .before .put-at in
-    let o = added-result (a .args .m) (a .args .k) (now (a .args .half)) (now (a .args .new)) (a .args .n) (a .args .cap) (a .pre .2) (a .pre .3) (none (c .before .before .before .before .before)) (x .last .0) (c .before .before .before .before .if2 .taken) (x .ensures .0) (x .ensures .1) in (
+    let a = c .before .before .before .before .before .before .before .before .before .before .before .before .before .before .before .before .before in
+    let x = c .before .before .before .put-at in
+    let o = added-result (a .args .m) (a .args .k) (now (a .args .half)) (now (a .args .new)) (a .args .n) (a .args .cap) (a .pre .2) (a .pre .3) (none (c .before .before .before .before .before .before)) (x .last .0) (c .before .before .before .before .before .if2 .taken) (x .ensures .0) (x .ensures .1) in (
       o .0,
       (
         o .1,
-        rw (bucket (c .before .before .before .before .before .before .before .before .before .before .before))
-            (indexed-more (a .args .m) (a .args .k) (now (a .args .half)) (a .args .n) (now (a .args .heads)) (a .pre .7) (x .last .0) (setOf (now (a .args .new))) (c .before .before .before .before .before .before .before .before .first-of .result)
+        rw (bucket (c .before .before .before .before .before .before .before .before .before .before .before .before), c .head-of .ensures)
+            (indexed-more (a .args .m) (a .args .k) (now (a .args .half)) (a .args .n) (now (a .args .heads)) (a .pre .7) (x .last .0) (setOf (now (a .args .new))) (c .before .before .before .before .before .before .before .before .before .first-of .result)
             (slots-kept (a .args .m) (a .args .k) (now (a .args .half)) (now (a .args .new)) (a .args .n) (a .args .cap) (a .pre .2) (a .pre .3) (x .last .0) (x .ensures .1))
-            (ap setOf (x .ensures .0) ∙ take-set (a .args .m) (a .args .k) (now (a .args .new))) (first (c .before .before .before .before .before .before .before .before))),
+            (ap setOf (x .ensures .0) ∙ take-set (a .args .m) (a .args .k) (now (a .args .new))) (first (c .before .before .before .before .before .before .before .before .before))),
       ),
     )
 
@@ -160,9 +163,10 @@ store-state-spec =
     same-length-2
     returns
     put-at-requires
+    head-of-requires
     mul-heads
     slice-write-heads
-    add-t25
+    add-t26
     same-length-3
     same-length-4
     returns-2

@@ -1,5 +1,5 @@
 -- What a half of the table holds before and after a state is stored in it, and the index by which stored states are found. Assumes nothing.
-use Prim.Native.Nat.{ℕ, _+_, _*_, _%_, _^_, _≤_, _<_}
+use Prim.Native.Nat.{ℕ, _+_, _*_, _/_, _%_, _^_, _≤_, _<_, min}
 use mathlib.Core.Path.{_≡_}
 use mathlib.Core.Bool.{true, false}
 use mathlib.Core.List.{List}
@@ -43,27 +43,41 @@ OthersKept m k j ws vs = (i : ℕ) → (i ≡ j → ⊥) → i * stateWords m k 
 
 -- A state is looked for from the first one on whose set falls into the same bucket.
 abbrev pub buckets : ℕ
-buckets = 2039
+buckets = 2048
 
-abbrev pub bucketOf : ℕ → ℕ
-bucketOf set = set % buckets
+unfoldable pub bucketOf : ℕ → ℕ
+bucketOf set = (set % 2 ^ 32 * 1640531527 + set / 2 ^ 32 * 668265263) / 2 ^ 21 % buckets
 
 abbrev pub bucketAt : ℕ → ℕ → List ℕ → ℕ → ℕ
 bucketAt m k ws j = bucketOf (setOf (slotOf m k ws j))
 
--- The head of a bucket that has states is the slot of its first. That of an empty one is any number, so that no level begins with clearing them: it is told
--- from the others because no state of the bucket stands there.
+-- A head is a word of 32 bits. A slot that has no such number of its own has the last one for its head.
+abbrev pub lastHead : ℕ
+lastHead = 4294967295
+
+abbrev pub headOf : ℕ → ℕ
+headOf slot = min slot lastHead
+
+-- The head of a bucket that has states is that of the slot of its first. The head of an empty one is any number, so that no level begins with clearing them: it
+-- is told from the others because no state of the bucket stands there.
 pub record Indexed (m k : ℕ) (ws : List ℕ) (n : ℕ) (heads : List ℕ) : Type 0 where
   pub long : length heads ≡ buckets
   pub not-after : (j : ℕ) → j < n → getD heads (bucketAt m k ws j) 0 ≤ j
-  pub in-place : (j : ℕ) → j < n → bucketAt m k ws (getD heads (bucketAt m k ws j) 0) ≡ bucketAt m k ws j
+  pub in-place : (j : ℕ) → j < n → getD heads (bucketAt m k ws j) 0 < lastHead → bucketAt m k ws (getD heads (bucketAt m k ws j) 0) ≡ bucketAt m k ws j
 
 abbrev pub IndexedAt : ℕ → ℕ → Stored → List ℕ → List ℕ → Type 0
 IndexedAt m k (At n) ws heads = Indexed m k ws n heads
 IndexedAt m k Full ws heads = Unit {0}
 
--- r is the first of n states of bucket b, and then the bucket's head, or n
-pub record FirstOf (m k : ℕ) (ws : List ℕ) (n : ℕ) (heads : List ℕ) (b r : ℕ) : Type 0 where
+-- no state of bucket b stands before r, which is the first of n states of b, or n, or the last head
+pub record FirstOf (m k : ℕ) (ws : List ℕ) (n b r : ℕ) : Type 0 where
   pub inside : r ≤ n
   pub none-before : (j : ℕ) → j < r → bucketAt m k ws j ≡ b → ⊥
-  pub is-head : r < n → (bucketAt m k ws r ≡ b) × (getD heads b 0 ≡ r)
+  pub is-first : r < n → r < lastHead → bucketAt m k ws r ≡ b
+
+-- r is the first of n states, from one of them on, that has the set, or n
+pub record NextOfSet (m k : ℕ) (ws : List ℕ) (n from set r : ℕ) : Type 0 where
+  pub not-before : from ≤ r
+  pub inside : r ≤ n
+  pub none-between : (j : ℕ) → j < r → from ≤ j → setOf (slotOf m k ws j) ≡ set → ⊥
+  pub has-set : r < n → setOf (slotOf m k ws r) ≡ set

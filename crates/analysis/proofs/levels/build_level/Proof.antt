@@ -1,21 +1,23 @@
 -- `build_level` meets its contract: before each state, those that are left make the level from what is built. Assumes nothing.
 use Prim.Native.Nat.{ℕ, _+_, _*_, _-_, _≤_}
-use mathlib.Core.Path.{_≡_, sym, ap, _∙_}
+use mathlib.Core.Path.{_≡_, refl, sym, ap, _∙_}
 use native.Mathlib.Omega.{arith}
 use lib.ListN.{length}
 use denote.Ref.{now}
 use borrow.Author.Needs.{needs}
+use Rattle.model.specs.Limits.{mostCores, mostJobs}
+use Rattle.model.specs.Exploration.{stateWords}
 use Rattle.words.proofs.Parts.{part-length}
 use Rattle.analysis.proofs.Building.{Building, building-starts, building-ends, read-inside, target-half, loaded-sound, table-long, building-goes-on, building-stops}
 use Rattle.analysis.proofs.levels.build_level.Statement.{statement}
 use Rattle.analysis.proofs.levels.build_level.Tie as tie
 
 abbrev Inv-loop : tie.InvT-loop
-Inv-loop table₀ seen₀ heads₀ rows sets shape m k capacity from n to w end built₀ j₀ table seen heads built j =
-    Building rows (shape .jobs) (shape .cores) (shape .capacity) from to n table₀ seen₀ table seen heads built j
+Inv-loop table₀ seen₀ heads₀ rows sets shape m k capacity from n to w end cur₀ built₀ j₀ table seen heads cur built j =
+    Building rows (shape .jobs) (shape .cores) (shape .capacity) from to n table₀ seen₀ table seen heads built j × (length cur ≡ stateWords mostCores mostJobs)
 
 abbrev μ-loop : tie.MeasureT-loop
-μ-loop table₀ seen₀ heads₀ rows sets shape m k capacity from n to w end built₀ j₀ table seen heads built j = n - j
+μ-loop table₀ seen₀ heads₀ rows sets shape m k capacity from n to w end cur₀ built₀ j₀ table seen heads cur built j = n - j
 
 state-words-requires : tie.Need-state-words-requires Inv-loop μ-loop
 state-words-requires c κs = search needs
@@ -37,26 +39,26 @@ add-end c = omega (arith, target c)
 loop-holds : tie.Need-loop-holds Inv-loop μ-loop
 loop-holds c =
     let a = c .before .before .before .before .before .before in
-    building-starts (a .pre .1 .0) (a .pre .1 .1) (a .pre .1 .2) (a .pre .1 .3)
+    (building-starts (a .pre .1 .0) (a .pre .1 .1) (a .pre .1 .2) (a .pre .1 .3), refl)
 
 -- the state that is read lies in the table
 read : (c : tie.In-loop Inv-loop μ-loop) → entry (c .before .before) .args .level .from + c .before .loop .j * c .before .before .state-words .result + c .before .before .state-words .result ≤ length (c .before .loop .table)
-read c = read-inside (c .before .loop .inv) (c .before .before .state-words .ensures) (c .loop-test .taken)
+read c = read-inside (c .before .loop .inv .0) (c .before .before .state-words .ensures) (c .loop-test .taken)
 
 mul-at : tie.Need-mul-at Inv-loop μ-loop
-mul-at c = omega (arith, read c, c .before .loop .inv .long)
+mul-at c = omega (arith, read c, c .before .loop .inv .0 .long)
 
 add-at : tie.Need-add-at Inv-loop μ-loop
-add-at c = omega (arith, read c, c .before .loop .inv .long)
+add-at c = omega (arith, read c, c .before .loop .inv .0 .long)
 
 add-next : tie.Need-add-next Inv-loop μ-loop
-add-next c = omega (arith, read c, c .before .loop .inv .long)
+add-next c = omega (arith, read c, c .before .loop .inv .0 .long)
 
 slice-aggregate-load-state : tie.Need-slice-aggregate-load-state Inv-loop μ-loop
 slice-aggregate-load-state c = search needs
 
 mul-load-state : tie.Need-mul-load-state Inv-loop μ-loop
-mul-load-state c = omega (arith, read (c .before), c .before .before .loop .inv .long)
+mul-load-state c = omega (arith, read (c .before), c .before .before .loop .inv .0 .long)
 
 sub-load-state : tie.Need-sub-load-state Inv-loop μ-loop
 sub-load-state c = search needs
@@ -85,7 +87,7 @@ part-try-state-start : tie.Need-part-try-state-start Inv-loop μ-loop
 part-try-state-start c = search needs
 
 part-try-state-end : tie.Need-part-try-state-end Inv-loop μ-loop
-part-try-state-end c = omega (arith, target (c .before .before .before .before .before .before .before), c .before .before .before .before .before .before .loop .inv .long)
+part-try-state-end c = omega (arith, target (c .before .before .before .before .before .before .before), c .before .before .before .before .before .before .loop .inv .0 .long)
 
 slice-aggregate-try-state : tie.Need-slice-aggregate-try-state Inv-loop μ-loop
 slice-aggregate-try-state c = search needs
@@ -100,9 +102,9 @@ try-state-requires c κs =
       a .pre .0,
       (
         omega (arith, l .kept .0, a .pre .0 .0 .jobs, a .pre .0 .0 .few-cores),
-        loaded-sound (i .inv) (s .ensures) t (l .last .0) (l .ensures .0) (l .ensures .1),
-        target-half (i .inv) (s .ensures) t,
-        i .inv .observed,
+        loaded-sound (i .inv .0) (s .ensures) t (l .last .0) (l .ensures .0) (l .ensures .1),
+        target-half (i .inv .0) (s .ensures) t,
+        i .inv .0 .observed,
       ),
     )
 
@@ -125,14 +127,14 @@ loaded c = c .before .before .before .before .before .before
 kept : (c : tie.After-try-state Inv-loop μ-loop) → (length (c .try-state .last .1 .0) ≡ length (now (first c .args .seen))) × (length (c .try-state .last .1 .1 .0) ≡ length (now (first c .args .heads)))
 kept c =
     let p = first c .pre in
-    let i = turn c .before .loop .inv in
+    let i = turn c .before .loop .inv .0 in
     let k = c .try-state .kept in (k .1 .0 ∙ i .observed .long ∙ sym (p .1 .2 .long), k .1 .1 .0 ∙ i .target .1 .long ∙ sym (p .1 .3))
 
 same-length : tie.Need-same-length Inv-loop μ-loop
 same-length c =
     let x = c .before .before .before .before .before .before .before in
     let l = loaded x .load-state in
-    table-long (turn x .before .loop .inv) (turn x .before .before .state-words .ensures) (turn x .loop-test .taken) (l .last .0) (l .ensures .0) (x .try-state .kept .0) (x .try-state .ensures)
+    table-long (turn x .before .loop .inv .0) (turn x .before .before .state-words .ensures) (turn x .loop-test .taken) (l .last .0) (l .ensures .0) (x .try-state .kept .0) (x .try-state .ensures)
 
 same-length-2 : tie.Need-same-length-2 Inv-loop μ-loop
 same-length-2 c = kept (c .before .before .before .before .before .before .before) .0
@@ -144,7 +146,7 @@ returns : tie.Need-returns Inv-loop μ-loop
 returns c =
     let x = c .before .before .before .before .before .before .before in
     let l = loaded x .load-state in
-    building-stops (turn x .before .loop .inv) (turn x .before .before .state-words .ensures) (turn x .loop-test .taken) (l .last .0) (l .ensures .0) (x .try-state .kept .0) (x .try-state .ensures) (c .match .keys2)
+    building-stops (turn x .before .loop .inv .0) (turn x .before .before .state-words .ensures) (turn x .loop-test .taken) (l .last .0) (l .ensures .0) (x .try-state .kept .0) (x .try-state .ensures) (c .match .keys2)
 
 add-j : tie.Need-add-j Inv-loop μ-loop
 add-j c = omega (arith, turn (c .before .before .before .before .before .before .before .before .before) .loop-test .taken, first (c .before .before .before .before .before .before .before .before .before) .good)
@@ -155,22 +157,24 @@ loop-less c = omega (arith, turn (c .before .before .before .before .before .bef
 loop-again : tie.Need-loop-again Inv-loop μ-loop
 loop-again c =
     let x = c .before .before .before .before .before .before .before .before .before in
-    let l = loaded x .load-state in
-    building-goes-on (turn x .before .loop .inv) (turn x .before .before .state-words .ensures) (turn x .loop-test .taken) (l .last .0) (l .ensures .0) (x .try-state .kept .0) (x .try-state .ensures) (c .before .progress .given .1)
+    let l = loaded x .load-state in (
+      building-goes-on (turn x .before .loop .inv .0) (turn x .before .before .state-words .ensures) (turn x .loop-test .taken) (l .last .0) (l .ensures .0) (x .try-state .kept .0) (x .try-state .ensures) (c .before .progress .given .1),
+      l .kept .0 ∙ turn x .before .loop .inv .1,
+    )
 
 -- ---- after the last state
 
 same-length-4 : tie.Need-same-length-4 Inv-loop μ-loop
-same-length-4 c = c .before .loop .inv .long
+same-length-4 c = c .before .loop .inv .0 .long
 
 same-length-5 : tie.Need-same-length-5 Inv-loop μ-loop
-same-length-5 c = c .before .loop .inv .observed .long ∙ sym (c .before .before .before .before .before .before .before .before .pre .1 .2 .long)
+same-length-5 c = c .before .loop .inv .0 .observed .long ∙ sym (c .before .before .before .before .before .before .before .before .pre .1 .2 .long)
 
 same-length-6 : tie.Need-same-length-6 Inv-loop μ-loop
-same-length-6 c = c .before .loop .inv .target .1 .long ∙ sym (c .before .before .before .before .before .before .before .before .pre .1 .3)
+same-length-6 c = c .before .loop .inv .0 .target .1 .long ∙ sym (c .before .before .before .before .before .before .before .before .pre .1 .3)
 
 returns-2 : tie.Need-returns-2 Inv-loop μ-loop
-returns-2 c = building-ends (c .before .loop .inv) (c .loop-test .left)
+returns-2 c = building-ends (c .before .loop .inv .0) (c .loop-test .left)
 
 pub build-level-spec : {M : Type 1} → statement M
 build-level-spec =
