@@ -22,9 +22,11 @@ use Rattle.rows.specs.internal.PhraseTable.{bellRowsAt, noteRowsAt, phraseWords
 use Rattle.rows.proofs.Records.{held, holds, begins-with-none}
 use Rattle.rows.proofs.BellRow.{rows-read-back}
 use Rattle.rows.proofs.PhraseTable.{one-layout}
-use Rattle.reader.specs.internal.Answers.{readingOf, headerOf, bodyOf}
-use Rattle.reader.specs.internal.Filling.{listOf, bellsHeld, BellTable, HoldsBells, HoldsNotes, Filled, countsIn}
-use Rattle.reader.specs.declared.answers.Reading.the-variants.{Refused}
+use Rattle.records.specs.internal.Answers.{readingOf}
+use Rattle.reader.specs.internal.Parts.{headerOf, bodyOf}
+use Rattle.records.specs.internal.Filling.{listOf, bellsHeld, BellTable, HoldsBells, HoldsNotes}
+use Rattle.reader.specs.internal.Filling.{Filled, countsIn}
+use Rattle.records.specs.declared.answers.Reading.the-variants.{Refused}
 
 -- ---- the header
 
@@ -109,14 +111,6 @@ module _ (s : List ℕ) where
   -- After a header that passes the file is read as its body is.
   pub header-passed : (u : Unit {0}) → headerOf s ≡ ok u → reading s ≡ bodyOf s
   header-passed u e = parts ∙ ap (λ (o : Outcome (Unit {0})). _>>_ o (bodyOf s)) e
-
-  -- A header that passes reaches the cores.
-  pub header-long : (u : Unit {0}) → headerOf s ≡ ok u → coresAt < length s
-  unfolding headerOf
-  header-long u e =
-      let version = required (leb (length s) 0 || isVersion (number 1 0 s)) wrongVersion 0 e in
-      let count = required (leb uncountedBytes (length s) && eqb (number 4 byteCountAt s) (length s - uncountedBytes)) wrongCount 0 (version .1) in
-      ltb-true coresAt (length s) (required (ltb coresAt (length s)) wrongEnd coresAt (count .1) .0)
 
   -- A file that is read has a body that is read.
   pub body-of-read : (x : Phrase) → reading s ≡ ok x → bodyOf s ≡ ok x

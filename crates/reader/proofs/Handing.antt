@@ -8,9 +8,9 @@ use Rattle.format.specs.Reading.{reading}
 use Rattle.format.proofs.Theorems.{sound}
 use Rattle.rows.specs.internal.PhraseTable.{phraseTable, phraseOf, HandedOn}
 use Rattle.rows.proofs.PhraseTable.{phrase-of}
-use Rattle.reader.specs.internal.Answers.{readingOf}
-use Rattle.reader.specs.declared.answers.Reading.the-variants.{Whole}
-use Rattle.reader.proofs.Outcomes.{was-ok}
+use Rattle.records.specs.internal.Answers.{readingOf}
+use Rattle.records.specs.declared.answers.Reading.the-variants.{Whole}
+use Rattle.records.proofs.Outcomes.{was-ok}
 
 -- The table of a file that was read is that of a valid phrase.
 pub handed-on : (file t : List ℕ) → AreBytes file → readingOf (reading file) ≡ Whole → t ≡ phraseTable (reading file) → HandedOn t

@@ -1,2 +1,2 @@
--- Worked examples of the definitions: what the reader answers, and the counts that a file gives.
+-- Worked examples of internal vocabulary.
 pub mod Files

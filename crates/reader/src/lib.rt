@@ -1,22 +1,15 @@
 // The phrase file, read into a table of words.
-pub mod answers;
-mod bells;
-mod notes;
-
 ghost use mathlib.Core.Path.{_≡_};
 ghost use Prim.Native.Nat.{_+_, _*_, _≤_, _<_};
 ghost use lib.ListN.{length};
 ghost use Rattle.model.specs.Limits.{mostJobs};
 ghost use Rattle.format.specs.Bytes.{number};
-ghost use Rattle.format.specs.Layout.{first, coresAt, bellCountAt, mostBells, noteCountAt};
+ghost use Rattle.format.specs.Layout.{first, bellCountAt, mostBells, noteCountAt};
 ghost use Rattle.format.specs.Reading.{reading};
 ghost use Rattle.rows.specs.internal.PhraseTable.{phraseWords, phraseTable};
-ghost use Rattle.reader.specs.internal.Answers.{readingOf, headerOf, bodyOf};
+ghost use Rattle.records.specs.internal.Answers.{readingOf};
+ghost use Rattle.reader.specs.internal.Parts.{headerOf, bodyOf};
 ghost use Rattle.reader.specs.internal.Filling.{Filled, countsIn, completed};
-use crate::answers::Reading;
-use crate::bells::note_count_at;
-use crate::bells::read_bells;
-use crate::notes::read_notes;
 use fields::bytes::be_32;
 use fields::bytes::byte;
 use fields::bytes::is_within;
@@ -30,6 +23,10 @@ use model::refusals::WRONG_CORES;
 use model::refusals::WRONG_COUNT;
 use model::refusals::WRONG_END;
 use model::refusals::WRONG_VERSION;
+use records::answers::Reading;
+use records::bells::note_count_at;
+use records::bells::read_bells;
+use records::notes::read_notes;
 use rows::BELL_COUNT;
 use rows::BELL_ROWS;
 use rows::CORES;
@@ -80,7 +77,7 @@ fn read_header(file: &[u8]) -> Reading
 
 // What follows the header: the bells and the notes.
 fn read_body(file: &[u8], phrase: &mut [u32]) -> Reading
-    requires { ⌜ (coresAt < length (now file)) × (phraseWords ≤ length (now phrase)) ⌝ }
+    requires { ⌜ phraseWords ≤ length (now phrase) ⌝ }
     ensures { λ r. ⌜ r ≡ readingOf (bodyOf (now (file .entry))) ⌝ }
     ensures { λ _. ⌜ Filled (bodyOf (now (file .entry))) (now (phrase .exit)) ⌝ }
 {

@@ -8,7 +8,7 @@ use denote.Ref.{now}
 use borrow.Author.Needs.{needs}
 use Rattle.format.specs.Bytes.{AreBytes}
 use Rattle.format.specs.Reading.{reading}
-use Rattle.reader.proofs.Outcomes.{was-refused}
+use Rattle.records.proofs.Outcomes.{was-refused}
 use Rattle.reader.proofs.Handing.{handed-on, phrase-read}
 use Rattle.checking.specs.Checking.{usedWords, checkedOf}
 use Rattle.checker.proofs.check_phrase.Statement.{statement}

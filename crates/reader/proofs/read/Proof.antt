@@ -11,7 +11,7 @@ use Rattle.format.specs.Phrase.{Phrase}
 use Rattle.format.specs.Reading.{reading}
 use Rattle.rows.specs.internal.PhraseTable.{phraseWords, phraseTable}
 use Rattle.reader.specs.internal.Filling.{Filled, completed}
-use Rattle.reader.proofs.Outcomes.{was-ok, was-refused}
+use Rattle.records.proofs.Outcomes.{was-ok, was-refused}
 use Rattle.reader.proofs.FileReading.{body-of-read, Counted, counted}
 use Rattle.reader.proofs.Completing.{completed-table}
 use borrow.Author.Needs.{needs}

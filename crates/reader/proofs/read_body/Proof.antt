@@ -10,9 +10,9 @@ use Rattle.format.specs.Outcome.{ok}
 use Rattle.format.specs.Phrase.{Bell}
 use Rattle.format.specs.Reading.{bellsIn, notesIn}
 use Rattle.rows.specs.internal.PhraseTable.{phraseWords}
-use Rattle.reader.specs.internal.Answers.{bodyOf}
-use Rattle.reader.specs.internal.Filling.{listOf, bellsHeld, BellTable, HoldsBells}
-use Rattle.reader.proofs.Outcomes.{was-ok, was-refused}
+use Rattle.reader.specs.internal.Parts.{bodyOf}
+use Rattle.records.specs.internal.Filling.{listOf, bellsHeld, BellTable, HoldsBells}
+use Rattle.records.proofs.Outcomes.{was-ok, was-refused}
 use Rattle.reader.proofs.FileReading.{bells-stop, bells-read, bells-ready, refused-filled, body-filled}
 use borrow.Author.Needs.{needs}
 use Rattle.reader.proofs.read_body.Statement.{statement}
@@ -31,7 +31,7 @@ rung c = was-ok (bellsIn first (file c)) (sym (c .before .before .before .before
 
 -- the table still has its length
 room : (c : tie.After-enum-told) → phraseWords ≤ length (table c)
-room c = omega (arith, c .before .before .before .before .read-bells .kept .1 .0, c .before .before .before .before .before .before .before .before .pre .1)
+room c = omega (arith, c .before .before .before .before .read-bells .kept .1 .0, c .before .before .before .before .before .before .before .before .pre)
 
 -- the bells counted are no more than the table has rows for
 few : (c : tie.After-byte) → c .byte .result ≤ mostBells

@@ -8,7 +8,7 @@ use borrow.Author.Tests.{not-true, not-false}
 use Rattle.model.specs.Limits.{mostCores}
 use Rattle.format.specs.Bytes.{number, within}
 use Rattle.format.specs.Layout.{byteCountAt, uncountedBytes, coresAt}
-use Rattle.reader.specs.internal.Answers.{readingOf}
+use Rattle.records.specs.internal.Answers.{readingOf}
 use Rattle.reader.proofs.FileReading.{empty, bad-version, no-header, bad-bytes, no-cores, bad-cores, header-read}
 use borrow.Author.Needs.{needs}
 use Rattle.reader.proofs.read_header.Statement.{statement}

@@ -5,10 +5,11 @@ use mathlib.Core.List.{List}
 use denote.Ref.{now}
 use Rattle.format.specs.Outcome.{ok}
 use Rattle.format.specs.Reading.{reading}
-use Rattle.reader.specs.internal.Answers.{readingOf, headerOf}
+use Rattle.records.specs.internal.Answers.{readingOf}
+use Rattle.reader.specs.internal.Parts.{headerOf}
 use Rattle.reader.specs.internal.Filling.{Filled}
-use Rattle.reader.proofs.Outcomes.{was-ok, was-refused}
-use Rattle.reader.proofs.FileReading.{header-stops, header-passed, header-long, refused-filled}
+use Rattle.records.proofs.Outcomes.{was-ok, was-refused}
+use Rattle.reader.proofs.FileReading.{header-stops, header-passed, refused-filled}
 use borrow.Author.Needs.{needs}
 use Rattle.reader.proofs.read_rows.Statement.{statement}
 use Rattle.reader.proofs.read_rows.Tie as tie
@@ -38,9 +39,7 @@ returns c =
     (c .enum-told2 .given .1 ∙ r .0, r .1)
 
 read-body-requires : tie.Need-read-body-requires
-read-body-requires c κs =
-    let e = passed (c .before) in
-    (header-long (file (c .before)) (e .0) (e .1), c .before .before .before .before .before .before .pre)
+read-body-requires c κs = c .before .before .before .before .before .before .pre
 
 same-length : tie.Need-same-length
 same-length c = search needs

@@ -1,0 +1,3 @@
+-- The records of a phrase file, read.
+pub mod examples
+pub mod internal

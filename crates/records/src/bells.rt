@@ -1,0 +1,121 @@
+// The bells of a phrase file, and their rows of words.
+ghost use mathlib.Core.Path.{_≡_};
+ghost use mathlib.Core.List.{[]};
+ghost use Prim.Native.Nat.{_+_, _*_, _≤_, _<_};
+ghost use lib.ListN.{length};
+ghost use Rattle.words.specs.internal.Placed.{placed};
+ghost use Rattle.format.specs.Layout.{first, bellBytes, bellsAt, mostBells, noteCountAt};
+ghost use Rattle.format.specs.Phrase.{sounding, find};
+ghost use Rattle.format.specs.Reading.{bellIn, bellRecord, bellsFrom, bellsIn};
+ghost use Rattle.rows.specs.internal.BellRow.{bellWords, bellRow};
+ghost use Rattle.rows.specs.internal.PhraseTable.{bellRowsAt, phraseWords};
+ghost use Rattle.records.specs.internal.Answers.{foundOf, readingOf};
+ghost use Rattle.records.specs.internal.Filling.{listOf, bellsHeld, BellTable, bellPut, HoldsBells};
+use crate::answers::Found;
+use crate::answers::Reading;
+use fields::bells::is_in_range;
+use fields::bells::sounding_key;
+use fields::bells::write_bell;
+use fields::bytes::byte;
+use fields::bytes::is_within;
+use fields::layout::BELL_BYTES;
+use fields::layout::BELL_COUNT_AT;
+use fields::layout::BELLS_AT;
+use model::refusals::DOUBLED_KEY;
+use model::refusals::WRONG_BELL;
+use model::refusals::WRONG_BELL_COUNT;
+use model::refusals::WRONG_END;
+use rows::BELL_ROWS;
+use rows::MOST_BELLS;
+use rows::bell::BELL_WORDS;
+use rows::bell::SOUNDING;
+
+// The first of the first n bells that sounds for the key.
+pub fn find_bell(phrase: &[u32], n: usize, key: u32) -> Found
+    requires { ⌜ (n ≤ mostBells) × (phraseWords ≤ length (now phrase)) × BellTable (now phrase) n ⌝ }
+    ensures { λ r. ⌜ r ≡ foundOf (find key (bellsHeld (now (phrase .entry)) n)) ⌝ }
+{
+    let mut i = 0;
+    while i < n {
+        if phrase[BELL_ROWS + (i * BELL_WORDS + SOUNDING)] == key {
+            return Found::At(i as u32);
+        }
+        i += 1;
+    }
+    Found::Nothing
+}
+
+// Writes row i.
+fn put_bell(part: &[u8], key: u32, phrase: &mut [u32], i: usize)
+    requires { ⌜ (bellBytes first ≤ length (now part)) × (key ≡ sounding (bellIn first (now part))) × (i < mostBells) × (phraseWords ≤ length (now phrase)) ⌝ }
+    ensures { λ _. ⌜ now (phrase .exit) ≡ placed (now (phrase .entry)) (bellRowsAt + i * bellWords) (bellRow (bellIn first (now (part .entry)))) ⌝ }
+{
+    let from = BELL_ROWS + i * BELL_WORDS;
+    let end = from + BELL_WORDS;
+    write_bell(part, key, &mut phrase[from..end]);
+}
+
+// One bell record, from the part of the file that begins at it, after i bells.
+fn read_bell(part: &[u8], at: usize, phrase: &mut [u32], i: usize) -> Reading
+    requires { ⌜ (i < mostBells) × (phraseWords ≤ length (now phrase)) × BellTable (now phrase) i ⌝ }
+    ensures { λ r. ⌜ r ≡ readingOf (bellRecord first (bellsHeld (now (phrase .entry)) i) at (now (part .entry))) ⌝ }
+    ensures { λ _. ⌜ now (phrase .exit)
+        ≡ bellPut (bellRecord first (bellsHeld (now (phrase .entry)) i) at (now (part .entry))) (now (phrase .entry)) i ⌝ }
+{
+    if part.len() < BELL_BYTES {
+        return Reading::Refused(WRONG_END, at);
+    }
+    let key = sounding_key(part);
+    if !is_in_range(part, key) {
+        return Reading::Refused(WRONG_BELL, at);
+    }
+    let found = find_bell(phrase, i, key);
+    if let Found::At(_) = found {
+        return Reading::Refused(DOUBLED_KEY, at);
+    }
+    put_bell(part, key, phrase, i);
+    Reading::Whole
+}
+
+// The first n bells, in rows from the first on.
+fn bells_from(file: &[u8], n: usize, phrase: &mut [u32]) -> Reading
+    requires { ⌜ (bellsAt first ≤ length (now file)) × (n ≤ mostBells) × (phraseWords ≤ length (now phrase)) ⌝ }
+    ensures { λ r. ⌜ r ≡ readingOf (bellsFrom first (now (file .entry)) n (bellsAt first) []) ⌝ }
+    ensures { λ _. ⌜ HoldsBells (listOf (bellsFrom first (now (file .entry)) n (bellsAt first) [])) (now (phrase .exit)) ⌝ }
+{
+    let mut at = BELLS_AT;
+    let mut i = 0;
+    while i < n {
+        let answer = read_bell(&file[at..], at, phrase, i);
+        let Reading::Whole = answer else {
+            return answer;
+        };
+        at += BELL_BYTES;
+        i += 1;
+    }
+    Reading::Whole
+}
+
+// The bell count and the bells, whose rows are in the table once they are read.
+pub fn read_bells(file: &[u8], phrase: &mut [u32]) -> Reading
+    requires { ⌜ phraseWords ≤ length (now phrase) ⌝ }
+    ensures { λ r. ⌜ r ≡ readingOf (bellsIn first (now (file .entry))) ⌝ }
+    ensures { λ _. ⌜ HoldsBells (listOf (bellsIn first (now (file .entry)))) (now (phrase .exit)) ⌝ }
+{
+    if file.len() <= BELL_COUNT_AT {
+        return Reading::Refused(WRONG_END, BELL_COUNT_AT);
+    }
+    let count = byte(file, BELL_COUNT_AT);
+    if !is_within(1, MOST_BELLS as u32, count) {
+        return Reading::Refused(WRONG_BELL_COUNT, BELL_COUNT_AT);
+    }
+    bells_from(file, count as usize, phrase)
+}
+
+// Where the note count stands, after n bells.
+pub fn note_count_at(n: usize) -> usize
+    requires { ⌜ n ≤ mostBells ⌝ }
+    ensures { λ r. ⌜ r ≡ noteCountAt first n ⌝ }
+{
+    BELLS_AT + n * BELL_BYTES
+}

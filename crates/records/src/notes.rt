@@ -1,0 +1,137 @@
+// The notes of a phrase file, and their rows of words.
+ghost use mathlib.Core.Path.{_≡_};
+ghost use mathlib.Core.List.{[]};
+ghost use Prim.Native.Nat.{_+_, _*_, _≤_, _<_};
+ghost use lib.ListN.{length};
+ghost use Rattle.model.specs.Limits.{mostJobs};
+ghost use Rattle.words.specs.internal.Placed.{placed};
+ghost use Rattle.format.specs.Bytes.{number};
+ghost use Rattle.format.specs.Layout.{first, mostBells, bellCountAt, noteCountAt};
+ghost use Rattle.format.specs.Rules.{noteRules};
+ghost use Rattle.format.specs.Reading.{noteIn, noteRecord, notesFrom, notesIn};
+ghost use Rattle.rows.specs.internal.NoteRow.{noteWords, noteRowOn};
+ghost use Rattle.rows.specs.internal.PhraseTable.{noteRowsAt, phraseWords};
+ghost use Rattle.fields.specs.internal.NoteRecord.{WholeNote};
+ghost use Rattle.records.specs.internal.Answers.{readingOf};
+ghost use Rattle.records.specs.internal.Filling.{listOf, bellsHeld, BellTable, HoldsBells, notePut, HoldsNotes};
+use crate::answers::Found;
+use crate::answers::Reading;
+use crate::bells::find_bell;
+use crate::bells::note_count_at;
+use fields::bytes::be_32;
+use fields::bytes::byte;
+use fields::layout::DEADLINE_AT;
+use fields::layout::EARLIEST_RELEASE_AT;
+use fields::layout::KEY_AT;
+use fields::layout::LATEST_RELEASE_AT;
+use fields::layout::LENGTH_AT;
+use fields::notes::are_times;
+use fields::notes::do_rise;
+use fields::notes::is_note_length;
+use fields::notes::write_note;
+use model::limits::MOST_JOBS;
+use model::refusals::SILENT_KEY;
+use model::refusals::TOO_MANY_NOTES;
+use model::refusals::WRONG_END;
+use model::refusals::WRONG_LISTED;
+use model::refusals::WRONG_NOTE_LENGTH;
+use model::refusals::WRONG_TIMES;
+use rows::NOTE_ROWS;
+use rows::note::NOTE_WORDS;
+
+// Writes the row of note `own`, which strikes the bell.
+fn put_note(part: &[u8], bell: u32, phrase: &mut [u32], own: usize)
+    requires { ⌜ WholeNote (now part) × (own < mostJobs) × (phraseWords ≤ length (now phrase)) ⌝ }
+    ensures { λ _. ⌜ now (phrase .exit) ≡ placed (now (phrase .entry)) (noteRowsAt + own * noteWords) (noteRowOn bell (noteIn first (now (part .entry)))) ⌝ }
+{
+    let from = NOTE_ROWS + own * NOTE_WORDS;
+    let end = from + NOTE_WORDS;
+    write_note(part, bell, &mut phrase[from..end]);
+}
+
+// The fields of a note record that is there, after `own` notes: 10, 11, 12, then its row.
+fn note_fields(part: &[u8], at: usize, phrase: &mut [u32], n: usize, own: usize) -> Reading
+    requires { ⌜ WholeNote (now part) × (n ≤ mostBells) × (phraseWords ≤ length (now phrase)) × BellTable (now phrase) n × (own < mostJobs) ⌝ }
+    ensures { λ r. ⌜ r ≡ readingOf (noteRules (bellsHeld (now (phrase .entry)) n) own at (noteIn first (now (part .entry)))) ⌝ }
+    ensures { λ _. ⌜ now (phrase .exit) ≡ notePut (bellsHeld (now (phrase .entry)) n)
+        (noteRules (bellsHeld (now (phrase .entry)) n) own at (noteIn first (now (part .entry)))) (now (phrase .entry)) own ⌝ }
+{
+    let key = byte(part, KEY_AT);
+    let Found::At(bell) = find_bell(phrase, n, key) else {
+        return Reading::Refused(SILENT_KEY, at);
+    };
+    let earliest = be_32(part, EARLIEST_RELEASE_AT);
+    let latest = be_32(part, LATEST_RELEASE_AT);
+    let deadline = be_32(part, DEADLINE_AT);
+    if !are_times(earliest, latest, deadline) {
+        return Reading::Refused(WRONG_TIMES, at);
+    }
+    if !do_rise(part, own as u32) {
+        return Reading::Refused(WRONG_LISTED, at);
+    }
+    put_note(part, bell, phrase, own);
+    Reading::Whole
+}
+
+// One note record, from the part of the file that begins at its length byte, after `own` notes.
+fn read_note(part: &[u8], at: usize, phrase: &mut [u32], n: usize, own: usize) -> Reading
+    requires { ⌜ (n ≤ mostBells) × (phraseWords ≤ length (now phrase)) × BellTable (now phrase) n × (own < mostJobs) ⌝ }
+    ensures { λ r. ⌜ r ≡ readingOf (noteRecord first (bellsHeld (now (phrase .entry)) n) own at (now (part .entry))) ⌝ }
+    ensures { λ _. ⌜ now (phrase .exit) ≡ notePut (bellsHeld (now (phrase .entry)) n)
+        (noteRecord first (bellsHeld (now (phrase .entry)) n) own at (now (part .entry))) (now (phrase .entry)) own ⌝ }
+{
+    if part.len() < 1 {
+        return Reading::Refused(WRONG_END, at);
+    }
+    let size = byte(part, LENGTH_AT);
+    if !is_note_length(size) {
+        return Reading::Refused(WRONG_NOTE_LENGTH, at);
+    }
+    if part.len() <= size as usize {
+        return Reading::Refused(WRONG_END, at);
+    }
+    note_fields(part, at, phrase, n, own)
+}
+
+// `count` notes from `start` on, with which the file ends. The rows of the n bells stay.
+fn notes_from(file: &[u8], start: usize, count: usize, phrase: &mut [u32], n: usize) -> Reading
+    requires { ⌜ (start ≤ length (now file)) × (count ≤ mostJobs) × (n ≤ mostBells) × (phraseWords ≤ length (now phrase)) × BellTable (now phrase) n ⌝ }
+    ensures { λ r. ⌜ r ≡ readingOf (notesFrom first (now (file .entry)) (bellsHeld (now (phrase .entry)) n) count start []) ⌝ }
+    ensures { λ _. ⌜ HoldsBells (bellsHeld (now (phrase .entry)) n) (now (phrase .exit)) ⌝ }
+    ensures { λ _. ⌜ HoldsNotes (bellsHeld (now (phrase .entry)) n)
+        (listOf (notesFrom first (now (file .entry)) (bellsHeld (now (phrase .entry)) n) count start [])) (now (phrase .exit)) ⌝ }
+{
+    let mut at = start;
+    let mut i = 0;
+    while i < count {
+        let answer = read_note(&file[at..], at, phrase, n, i);
+        let Reading::Whole = answer else {
+            return answer;
+        };
+        at += 1 + byte(file, at) as usize;
+        i += 1;
+    }
+    if at < file.len() {
+        return Reading::Refused(WRONG_END, at);
+    }
+    Reading::Whole
+}
+
+// The note count and the notes, whose rows are in the table once they are read. `n` is the file's bell count.
+pub fn read_notes(file: &[u8], phrase: &mut [u32], n: usize) -> Reading
+    requires { ⌜ (n ≡ number 1 (bellCountAt first) (now file)) × (n ≤ mostBells) × (phraseWords ≤ length (now phrase)) × BellTable (now phrase) n ⌝ }
+    ensures { λ r. ⌜ r ≡ readingOf (notesIn first (now (file .entry)) (bellsHeld (now (phrase .entry)) n) (noteCountAt first n)) ⌝ }
+    ensures { λ _. ⌜ HoldsBells (bellsHeld (now (phrase .entry)) n) (now (phrase .exit)) ⌝ }
+    ensures { λ _. ⌜ HoldsNotes (bellsHeld (now (phrase .entry)) n)
+        (listOf (notesIn first (now (file .entry)) (bellsHeld (now (phrase .entry)) n) (noteCountAt first n))) (now (phrase .exit)) ⌝ }
+{
+    let at = note_count_at(n);
+    if file.len() <= at {
+        return Reading::Refused(WRONG_END, at);
+    }
+    let count = byte(file, at) as usize;
+    if MOST_JOBS < count {
+        return Reading::Refused(TOO_MANY_NOTES, at);
+    }
+    notes_from(file, at + 1, count, phrase, n)
+}
