@@ -1,4 +1,2 @@
--- How the reader's rows come to the analysis, and how its words become the result.
-pub mod Accepted
-pub mod Results
+-- How the reader's rows come to the analysis.
 pub mod Readings

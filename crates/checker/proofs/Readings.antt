@@ -18,7 +18,7 @@ use Rattle.jobs.specs.internal.JobRow.{jobsOfRows, Setting}
 use Rattle.jobs.specs.internal.JobTable.{jobTable}
 use Rattle.jobs.proofs.JobRow.{jobs-length, phrase-jobs, setting}
 use Rattle.checking.specs.Checking.{levelWords, usedWords, resultOf, checkedOf}
-use Rattle.checker.specs.internal.Finishes.{analysedOf}
+use Rattle.checker.specs.internal.Analysed.{analysedOf}
 
 module _ (t : List ℕ) (h : HandedOn t) (rows before : List ℕ) (made : rows ≡ jobTable (phraseOf t) before) (m k : ℕ)
     (cores : m ≡ getD t coresWord 0) (count : k ≡ getD t noteCountWord 0) where

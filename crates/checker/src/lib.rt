@@ -1,6 +1,4 @@
 // A phrase file checked over a lent table.
-mod accepting;
-
 ghost use mathlib.Core.Path.{_≡_};
 ghost use lib.ListN.{length, drop};
 ghost use Rattle.model.specs.Guarantee.{WellFormed};
@@ -9,8 +7,7 @@ ghost use Rattle.format.specs.Reading.{reading};
 ghost use Rattle.rows.specs.internal.PhraseTable.{phraseTable, phraseOf, HandedOn};
 ghost use Rattle.jobs.specs.internal.JobRow.{jobsOfRows, Setting};
 ghost use Rattle.checking.specs.Checking.{verdict, levelWords, TableKept, checkedOf, answerFor, valuesOf, RunsKept};
-ghost use Rattle.checker.specs.internal.Finishes.{analysedOf};
-use crate::accepting::accepting;
+ghost use Rattle.checker.specs.internal.Analysed.{analysedOf};
 use analysis::levels::Analysed;
 use analysis::levels::analyse;
 pub use checking::Answer;
@@ -22,6 +19,7 @@ use model::limits::MOST_JOBS;
 use model::refusals::LEVEL_FULL;
 use reader::read;
 use records::answers::Reading;
+use results::accepting;
 use rows::CORES;
 use rows::NOTE_COUNT;
 use rows::PHRASE_WORDS;

@@ -8,7 +8,7 @@ use Rattle.jobs.specs.internal.JobRow.{jobsOfRows}
 use Rattle.analysis.specs.internal.Answers.{verdictIn}
 use Rattle.analysis.specs.declared.levels.Analysed.{Analysed}
 use Rattle.checking.specs.Checking.{resultOf}
-use Rattle.checker.proofs.Accepted.{all-finished}
+use Rattle.results.proofs.Accepted.{all-finished}
 use Rattle.checker.proofs.analysed.Statement.{statement}
 use Rattle.checker.proofs.analysed.Tie as tie
 

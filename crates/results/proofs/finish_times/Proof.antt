@@ -6,8 +6,8 @@ use lib.ListN.{take, drop}
 use denote.Ref.{now}
 use borrow.Author.Needs.{needs}
 use Rattle.model.specs.Limits.{mostJobs}
-use Rattle.checker.proofs.accepting.finish_times.Statement.{statement}
-use Rattle.checker.proofs.accepting.finish_times.Tie as tie
+use Rattle.results.proofs.finish_times.Statement.{statement}
+use Rattle.results.proofs.finish_times.Tie as tie
 
 add-end : tie.Need-add-end
 add-end c = search needs

@@ -7,7 +7,7 @@ ghost use Rattle.model.specs.Exploration.{accepted};
 ghost use Rattle.jobs.specs.internal.JobRow.{jobsOfRows, Rows};
 ghost use Rattle.steps.specs.internal.Observed.{observedOf};
 ghost use Rattle.checking.specs.Checking.{perJob, resultOf};
-ghost use Rattle.checker.specs.internal.Finishes.{Released, responseOf, FinishesObserved};
+ghost use Rattle.results.specs.internal.Finishes.{Released, responseOf, FinishesObserved};
 use checking::Answer;
 use checking::Checked;
 use jobs::earliest_release;

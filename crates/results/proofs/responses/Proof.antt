@@ -5,10 +5,10 @@ use native.Mathlib.Omega.{arith}
 use lib.ListN.{getD, set}
 use denote.Ref.{now}
 use Rattle.checking.specs.Checking.{perJob}
-use Rattle.checker.specs.internal.Finishes.{responseOf}
+use Rattle.results.specs.internal.Finishes.{responseOf}
 use Rattle.checking.proofs.PerJob.{per-job-none, per-job-more}
-use Rattle.checker.proofs.accepting.responses.Statement.{statement}
-use Rattle.checker.proofs.accepting.responses.Tie as tie
+use Rattle.results.proofs.responses.Statement.{statement}
+use Rattle.results.proofs.responses.Tie as tie
 
 abbrev Inv-loop : tie.InvT-loop
 Inv-loop rows k finishes words₀ i₀ words i = (i ≤ k) × (words ≡ perJob i (responseOf rows k finishes))

@@ -16,7 +16,7 @@ use Rattle.jobs.proofs.Jobs.{length-jobs}
 use Rattle.steps.specs.internal.Observed.{observedOf}
 use Rattle.steps.proofs.Ranges.{observed-at}
 use Rattle.checking.specs.Checking.{perJob, resultOf}
-use Rattle.checker.specs.internal.Finishes.{releaseOf, responseOf, Released, FinishesObserved}
+use Rattle.results.specs.internal.Finishes.{releaseOf, responseOf, Released, FinishesObserved}
 use Rattle.checking.specs.declared.Answer.the-variants.{Accepted}
 use Rattle.checking.specs.declared.Checked.{Checked}
 use Rattle.checking.proofs.PerJob.{per-job-is, per-job-ext}

@@ -19,7 +19,7 @@ use Rattle.ranges.specs.internal.Ranges.{rangeIn}
 use Rattle.steps.specs.internal.Observed.{observedOf, Observed}
 use Rattle.steps.proofs.Ranges.{observed-at}
 use Rattle.checking.proofs.Accepted.{Reported, reported}
-use Rattle.checker.specs.internal.Finishes.{FinishesObserved}
+use Rattle.results.specs.internal.Finishes.{FinishesObserved}
 
 -- a range in two words, the latest of which is 0 where nothing was observed
 in-words : (a d e f : ℕ) → isRange (rangeIn e f) ≡ true → Between a d (rangeIn e f) → (a ≤ e) × (e ≤ f) × (1 ≤ f)

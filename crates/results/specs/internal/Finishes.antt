@@ -1,14 +1,11 @@
--- The result of the analysis, from the rows of the jobs and the words of their observed finish ranges. Assumes nothing.
+-- The finish times of jobs, from their rows and the words of their observed finish ranges. Assumes nothing.
 use Prim.Native.Nat.{ℕ, _+_, _-_, _≤_, _<_}
 use mathlib.Core.List.{List}
 use lib.ListN.{getD}
 use Rattle.model.specs.Limits.{mostJobs}
 use Rattle.model.specs.Jobs.{job}
-use Rattle.model.specs.Exploration.{analysis, capacity}
 use Rattle.jobs.specs.internal.JobRow.{jobsOfRows, Rows}
 use Rattle.steps.specs.internal.Observed.{Observed}
-use Rattle.checking.specs.Checking.{resultOf}
-use Rattle.checking.specs.declared.Checked.{Checked}
 
 -- the earliest release of job i
 abbrev pub releaseOf : List ℕ → ℕ → ℕ → ℕ
@@ -30,7 +27,3 @@ pub record FinishesObserved (rows : List ℕ) (k : ℕ) (seen : List ℕ) : Type
   pub released : (i : ℕ) → i < k → releaseOf rows k i ≤ getD seen i 0
   pub in-order : (i : ℕ) → i < k → getD seen i 0 ≤ getD seen (mostJobs + i) 0
   pub finished : (i : ℕ) → i < k → 1 ≤ getD seen (mostJobs + i) 0
-
--- the result that the analysis of the jobs of k rows on m cores gives, with a table of so many words
-abbrev pub analysedOf : List ℕ → ℕ → ℕ → ℕ → Checked
-analysedOf rows k m words = resultOf (jobsOfRows rows k) (analysis (jobsOfRows rows k) m (capacity words m k))

@@ -2,10 +2,10 @@
 use mathlib.Core.Path.{sym, subst}
 use denote.Ref.{now}
 use borrow.Author.Needs.{needs}
-use Rattle.checker.specs.internal.Finishes.{Released}
-use Rattle.checker.proofs.Results.{earliest-released, latest-released, accepted-result}
-use Rattle.checker.proofs.accepting.accepting.Statement.{statement}
-use Rattle.checker.proofs.accepting.accepting.Tie as tie
+use Rattle.results.specs.internal.Finishes.{Released}
+use Rattle.results.proofs.Results.{earliest-released, latest-released, accepted-result}
+use Rattle.results.proofs.accepting.Statement.{statement}
+use Rattle.results.proofs.accepting.Tie as tie
 
 finish-times-requires : tie.Need-finish-times-requires
 finish-times-requires c κs = search needs

@@ -1,0 +1,2 @@
+-- The result of an accepted analysis.
+pub mod internal
