@@ -102,8 +102,8 @@ module _ (t : List ℕ) (handed : HandedOn t) where
   few-jobs = omega (arith, held-length, few-notes (handed .phrase) (handed .valid))
 
   -- The header says how many jobs there are.
-  pub counted : getD t noteCountWord 0 ≡ length (jobsHeld t)
-  counted = ap (λ (s : List ℕ). getD s noteCountWord 0) (handed .is) ∙ header-word (handed .phrase) (handed .valid) noteCountWord (omega arith) ∙ sym held-length
+  pub note-count : getD t noteCountWord 0 ≡ length (jobsHeld t)
+  note-count = ap (λ (s : List ℕ). getD s noteCountWord 0) (handed .is) ∙ header-word (handed .phrase) (handed .valid) noteCountWord (omega arith) ∙ sym held-length
 
   module _ (i : ℕ) (b : i < length (jobsHeld t)) where
     -- The table has a row for job i.

@@ -187,21 +187,21 @@ module _ (s : List ℕ) where
       (omega (arith, leb-true (at + 1) (length s) (long .0)), count, omega (arith, count, leb-true (number 1 at s) mostJobs (few .0)))
 
   -- What a file that is read says of its counts: they are there, and are those of the phrase.
-  pub record Counted (x : Phrase) : Type 0 where
+  pub record CountsRead (x : Phrase) : Type 0 where
     pub bells : (bellCountAt first < length s) × (bellCount ≤ mostBells)
     pub notes : (noteAt < length s) × (countsIn s .notes ≤ mostJobs)
     pub counts : countsIn s ≡ record { version = x .version; cores = x .cores; bells = length (x .bells); notes = length (x .notes) }
 
   -- A file that is read has its counts.
-  pub counted : (x : Phrase) → bodyOf s ≡ ok x → Counted x
+  pub counts-read : (x : Phrase) → bodyOf s ≡ ok x → CountsRead x
   unfolding bodyOf
-  counted x e =
+  counts-read x e =
       let bells = bound (bellsIn first s) e in
       let notes = bound (notesIn first s (bells .0) noteAt) (bells .2) in
       let b = bells-read (bells .0) (bells .1) in
       let n = notes-read (bells .0) noteAt (notes .0) (notes .1) in
       let same : phrase (bells .0) (notes .0) ≡ x = cc (notes .2) in
-      subst Counted same
+      subst CountsRead same
       (record {
         bells = (b .0, omega (arith, b .1, b .2));
         notes = (n .0, omega (arith, n .1, n .2));

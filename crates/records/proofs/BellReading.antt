@@ -86,7 +86,7 @@ module _ (s : List ℕ) where
     bad-count e = simp (lt-ltb _ _ h, e)
 
     -- So many bells are read.
-    pub counted : within 1 mostBells (number 1 (bellCountAt first) s) ≡ true
+    pub right-count : within 1 mostBells (number 1 (bellCountAt first) s) ≡ true
         → bellsIn first s ≡ bellsFrom first s (number 1 (bellCountAt first) s) (bellsAt first) []
     unfolding bellsIn
-    counted e = simp (lt-ltb _ _ h, e)
+    right-count e = simp (lt-ltb _ _ h, e)

@@ -144,6 +144,6 @@ module _ (s : List ℕ) (bells : List Bell) (at : ℕ) where
     bad-count h = simp (le-leb _ _ here, lt-leb _ _ h)
 
     -- Otherwise so many notes are read from the next byte on.
-    pub counted : number 1 at s ≤ mostJobs → notesIn first s bells at ≡ notesFrom first s bells (number 1 at s) (at + 1) []
+    pub right-count : number 1 at s ≤ mostJobs → notesIn first s bells at ≡ notesFrom first s bells (number 1 at s) (at + 1) []
     unfolding notesIn
-    counted h = simp (le-leb _ _ here, le-leb _ _ h)
+    right-count h = simp (le-leb _ _ here, le-leb _ _ h)

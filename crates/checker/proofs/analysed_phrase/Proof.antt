@@ -7,11 +7,11 @@ use Rattle.checker.proofs.Readings.{handed, result-is, used-is}
 use Rattle.checker.proofs.analysed_phrase.Statement.{statement}
 use Rattle.checker.proofs.analysed_phrase.Tie as tie
 
-abbrev counted : tie.After-analysed-arg → tie.After-header-word2
-counted c = c .before .before
+abbrev header-read : tie.After-analysed-arg → tie.After-header-word2
+header-read c = c .before .before
 
 abbrev made : tie.After-analysed-arg → tie.After-write-jobs
-made c = counted c .before .before
+made c = header-read c .before .before
 
 abbrev start : tie.After-analysed-arg → tie.Start
 start c = made c .before .before .before
@@ -33,7 +33,7 @@ cast-m c = search needs
 
 analysed-requires : tie.Need-analysed-requires
 analysed-requires c κs =
-    handed (now (start c .args .phrase)) (start c .pre) _ _ (made c .write-jobs .ensures) _ _ (counted c .header-word2 .ensures) (counted c .before .header-word .ensures)
+    handed (now (start c .args .phrase)) (start c .pre) _ _ (made c .write-jobs .ensures) _ _ (header-read c .header-word2 .ensures) (header-read c .before .header-word .ensures)
 
 same-length : tie.Need-same-length
 same-length c = search needs
@@ -44,8 +44,8 @@ returns c =
     let d = done .before in
     let t = now (start d .args .phrase) in
     let words = length (now (start d .args .table)) in
-    let cores = counted d .header-word2 .ensures in
-    let count = counted d .before .header-word .ensures in
+    let cores = header-read d .header-word2 .ensures in
+    let count = header-read d .before .header-word .ensures in
     let used = used-is t (start d .pre) _ _ (made d .write-jobs .ensures) _ _ cores count words in
     (done .analysed .ensures .0 ∙ result-is t (start d .pre) _ _ (made d .write-jobs .ensures) _ _ cores count words, rw used at (done .analysed .ensures .1))
 

@@ -116,11 +116,11 @@ returns c =
     let q : List ℕ = l ++ asList (optionOf (near .result)) in
     let all : q ≡ predecessors js i = ap (λ (o : Option ℕ). l ++ asList o) found in
     let few : length q ≤ mostPredecessors = omega (arith, ap length all, few-predecessors t (s .pre .0) i (s .pre .1)) in
-    let counted : count .result ≡ length q =
+    let as-many : count .result ≡ length q =
     omega (arith, count .ensures, listed .ensures, count-word t (s .pre .0) i (s .pre .1), length-append l (asList (optionOf (near .result)))) in
     let ws : List ℕ = count .result ∷ first .result ∷ second .result ∷ third .result ∷ fourth .result ∷ fifth .result ∷ [] in
     let same : ws ≡ length q ∷ tabulate (λ (j : ℕ). getD q j 0) 0 mostPredecessors =
-    λ k. counted k ∷ first .ensures k ∷ second .ensures k ∷ third .ensures k ∷ fourth .ensures k ∷ fifth .ensures k ∷ [] in
+    λ k. as-many k ∷ first .ensures k ∷ second .ensures k ∷ third .ensures k ∷ fourth .ensures k ∷ fifth .ensures k ∷ [] in
     let e : ws ≡ predecessorWords (predecessors js i) = same ∙ (predecessor-words q few ∙ ap predecessorWords all) in
     sets-placed row predecessorCountAt ws (omega (arith, s .pre .2)) ∙ ap (placed row predecessorCountAt) e
 

@@ -9,7 +9,7 @@ use borrow.Author.Needs.{needs}
 use Rattle.words.specs.internal.Placed.{placed}
 use Rattle.jobs.specs.internal.JobRow.{rowWords, jobRow, jobRows}
 use Rattle.jobset.specs.internal.Making.{jobsHeld}
-use Rattle.jobset.proofs.Held.{few-jobs, counted, few-predecessors, rows-none, rows-more, rows-room}
+use Rattle.jobset.proofs.Held.{few-jobs, note-count, few-predecessors, rows-none, rows-more, rows-room}
 use Rattle.jobset.proofs.write_rows.Statement.{statement}
 use Rattle.jobset.proofs.write_rows.Tie as tie
 
@@ -23,13 +23,13 @@ element-copy-out-count : tie.Need-element-copy-out-count Inv-loop μ-loop
 element-copy-out-count c = search needs
 
 cast-count : tie.Need-cast-count Inv-loop μ-loop
-cast-count c = let s = c .before .before in omega (arith, counted (now (s .args .phrase)) (s .pre .0), few-jobs (now (s .args .phrase)) (s .pre .0))
+cast-count c = let s = c .before .before in omega (arith, note-count (now (s .args .phrase)) (s .pre .0), few-jobs (now (s .args .phrase)) (s .pre .0))
 
 loop-holds : tie.Need-loop-holds Inv-loop μ-loop
 loop-holds c =
     let s = c .before .before in
     let t = now (s .args .phrase) in
-    (omega arith, counted t (s .pre .0), rows-none (jobsHeld t) (now (s .args .rows)))
+    (omega arith, note-count t (s .pre .0), rows-none (jobsHeld t) (now (s .args .rows)))
 
 put-job-requires : tie.Need-put-job-requires Inv-loop μ-loop
 put-job-requires c κs =

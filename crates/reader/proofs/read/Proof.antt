@@ -12,7 +12,7 @@ use Rattle.format.specs.Reading.{reading}
 use Rattle.rows.specs.internal.PhraseTable.{phraseWords, phraseTable}
 use Rattle.reader.specs.internal.Filling.{Filled, completed}
 use Rattle.records.proofs.Outcomes.{was-ok, was-refused}
-use Rattle.reader.proofs.FileReading.{body-of-read, Counted, counted}
+use Rattle.reader.proofs.FileReading.{body-of-read, CountsRead, counts-read}
 use Rattle.reader.proofs.Completing.{completed-table}
 use borrow.Author.Needs.{needs}
 use Rattle.reader.proofs.read.Statement.{statement}
@@ -31,8 +31,8 @@ was-read : (c : tie.After-enum-told) → (x : Phrase) × (reading (file c) ≡ o
 was-read c = was-ok (reading (file c)) (sym (c .before .before .read-rows .ensures .0) ∙ c .enum-told .given .1)
 
 -- what the file says of its counts
-numbers : (c : tie.After-enum-told) → Counted (file c) (was-read c .0)
-numbers c = let e = was-read c in counted (file c) (e .0) (body-of-read (file c) (e .0) (e .1))
+numbers : (c : tie.After-enum-told) → CountsRead (file c) (was-read c .0)
+numbers c = let e = was-read c in counts-read (file c) (e .0) (body-of-read (file c) (e .0) (e .1))
 
 read-rows-requires : tie.Need-read-rows-requires
 read-rows-requires c κs = search needs

@@ -26,8 +26,8 @@ abbrev table : tie.After-enum-told → List ℕ
 table c = c .before .before .before .before .read-bells .last .1 .0
 
 -- what is known once the bells are read
-rung : (c : tie.After-enum-told) → (bells : List Bell) × (bellsIn first (file c) ≡ ok bells)
-rung c = was-ok (bellsIn first (file c)) (sym (c .before .before .before .before .read-bells .ensures .0) ∙ c .enum-told .given .1)
+bells-taken : (c : tie.After-enum-told) → (bells : List Bell) × (bellsIn first (file c) ≡ ok bells)
+bells-taken c = was-ok (bellsIn first (file c)) (sym (c .before .before .before .before .read-bells .ensures .0) ∙ c .enum-told .given .1)
 
 -- the table still has its length
 room : (c : tie.After-enum-told) → phraseWords ≤ length (table c)
@@ -36,7 +36,7 @@ room c = omega (arith, c .before .before .before .before .read-bells .kept .1 .0
 -- the bells counted are no more than the table has rows for
 few : (c : tie.After-byte) → c .byte .result ≤ mostBells
 few c =
-    let bells = rung (c .before) in
+    let bells = bells-taken (c .before) in
     let read = bells-read (file (c .before)) (bells .0) (bells .1) in
     omega (arith, read .1, read .2, c .byte .ensures .0)
 
@@ -45,7 +45,7 @@ ready : (c : tie.After-byte) → (bellsIn first (file (c .before)) ≡ ok (bells
     × BellTable (table (c .before)) (c .byte .result)
 ready c =
     let t = table (c .before) in
-    let bells = rung (c .before) in
+    let bells = bells-taken (c .before) in
     let there = subst (λ o. HoldsBells (listOf o) t) (bells .1) (c .before .before .before .before .before .read-bells .ensures .1) in
     bells-ready (file (c .before)) t (bells .0) (bells .1) there (c .byte .result) (c .byte .ensures .0) (room (c .before))
 
@@ -70,7 +70,7 @@ returns c =
     (c .enum-told2 .given .1 ∙ r .0, r .1)
 
 byte-requires : tie.Need-byte-requires
-byte-requires c κs = bells-read (file c) (rung c .0) (rung c .1) .0
+byte-requires c κs = bells-read (file c) (bells-taken c .0) (bells-taken c .1) .0
 
 cast-n : tie.Need-cast-n
 cast-n c = search needs

@@ -13,7 +13,7 @@ use Rattle.records.specs.internal.Filling.{listOf, HoldsBells}
 use Rattle.records.proofs.Outcomes.{carried}
 use Rattle.rows.proofs.BellRow.{begins-none}
 use Rattle.format.proofs.Passed.{within-true}
-use Rattle.records.proofs.BellReading.{no-count, bad-count, counted}
+use Rattle.records.proofs.BellReading.{no-count, bad-count, right-count}
 use borrow.Author.Needs.{needs}
 use Rattle.records.proofs.bells.read_bells.Statement.{statement}
 use Rattle.records.proofs.bells.read_bells.Tie as tie
@@ -70,7 +70,7 @@ returns-3 c =
     let f = c .before .before in
     let d = f .before .before .before in
     let s = now (start d .args .file) in
-    let those = counted s (d .before .before .if1 .left) (in-range (f .before .before)) in
+    let those = right-count s (d .before .before .if1 .left) (in-range (f .before .before)) in
     let cast = ap (λ n. bellsFrom first s n (bellsAt first) []) (sym (d .before .byte .ensures .0)) in
     let q = carried (λ o. HoldsBells (listOf o) (f .bells-from .last .1 .1 .0)) (those ∙ cast) (f .bells-from .ensures .1) in
     (f .bells-from .ensures .0 ∙ q .0, q .1)

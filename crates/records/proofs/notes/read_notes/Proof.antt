@@ -13,7 +13,7 @@ use Rattle.rows.proofs.BellRow.{table-begins}
 use Rattle.rows.proofs.NoteRow.{begins-none}
 use Rattle.records.specs.internal.Filling.{listOf, bellsHeld, HoldsNotes}
 use Rattle.records.proofs.Outcomes.{carried}
-use Rattle.records.proofs.NoteReading.{no-count, bad-count, counted}
+use Rattle.records.proofs.NoteReading.{no-count, bad-count, right-count}
 use borrow.Author.Needs.{needs}
 use Rattle.records.proofs.notes.read_notes.Statement.{statement}
 use Rattle.records.proofs.notes.read_notes.Tie as tie
@@ -69,7 +69,7 @@ returns-3 c =
     let k = c .before .before .before .before .before .byte .ensures .0 ∙ ap (λ m. number 1 m s) e in
     let w : notesFrom first s bs (number 1 at s) (at + 1) [] ≡ notesFrom first s bs (c .before .before .before .before .before .byte .result) (c .before .before .before .before .before .before .before .note-count-at .result + 1) [] =
     λ i. notesFrom first s bs (sym k i) (sym e i + 1) [] in
-    let q = carried (λ o. HoldsNotes bs (listOf o) (c .before .before .notes-from .last .1 .1 .1 .0)) (counted s bs at (omega (arith, e)) (omega (arith, k)) ∙ w) (c .before .before .notes-from .ensures .1 .1) in
+    let q = carried (λ o. HoldsNotes bs (listOf o) (c .before .before .notes-from .last .1 .1 .1 .0)) (right-count s bs at (omega (arith, e)) (omega (arith, k)) ∙ w) (c .before .before .notes-from .ensures .1 .1) in
     (c .before .before .notes-from .ensures .0 ∙ q .0, (c .before .before .notes-from .ensures .1 .0, q .1))
 
 pub read-notes-spec : {M : Type 1} → statement M
