@@ -2,7 +2,7 @@
 use Prim.Native.Nat.{ℕ, zero, suc, _/_, _≤_, _<_}
 use mathlib.Core.Path.{_≡_, refl, ap, _∙_}
 use mathlib.Core.Bool.{Bool, true, false}
-use mathlib.Core.List.{List, [], _∷_, _++_}
+use mathlib.Core.List.{List, [], _∷_, _++_, append-assoc}
 use native.Mathlib.Omega.{arith}
 use lib.Dec.{ltb}
 use borrow.Author.Tests.{lt-ltb, le-ltb}
@@ -39,3 +39,16 @@ unfolding decimal decimalWithin
 decimal-high n h =
     enough n (suc n) n (omega arith) (omega arith)
     ∙ rw (le-ltb n 10 h) (ap (λ (l : List ℕ). l ++ (digit n ∷ [])) (enough n (n / 10) (n / 10) (omega arith) (omega arith)))
+
+-- A number of two digits is these.
+pub decimal-two : (n : ℕ) → 10 ≤ n → n < 100 → decimal n ≡ digit (n / 10) ∷ digit n ∷ []
+decimal-two n h l = decimal-high n h ∙ ap (λ (z : List ℕ). z ++ (digit n ∷ [])) (decimal-low (n / 10) (omega arith))
+
+-- One of more digits is the number without its last two, and these.
+pub decimal-pair : (n : ℕ) → 100 ≤ n → decimal n ≡ decimal (n / 100) ++ (digit (n / 10) ∷ digit n ∷ [])
+decimal-pair n h =
+    let hundreds : n / 10 / 10 ≡ n / 100 = omega arith in
+    decimal-high n (omega arith)
+    ∙ ap (λ (z : List ℕ). z ++ (digit n ∷ [])) (decimal-high (n / 10) (omega arith))
+    ∙ append-assoc (decimal (n / 10 / 10)) (digit (n / 10) ∷ []) (digit n ∷ [])
+    ∙ ap (λ (z : ℕ). decimal z ++ (digit (n / 10) ∷ digit n ∷ [])) hundreds

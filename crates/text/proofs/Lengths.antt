@@ -10,7 +10,7 @@ use lib.ListN.{length, getD, length-append}
 use borrow.Author.Tests.{ltb-true, ltb-false}
 use Rattle.text.specs.Decimal.{digit, decimal}
 use Rattle.text.specs.Keys.{names, keyText}
-use Rattle.text.proofs.Decimal.{decimal-low, decimal-high}
+use Rattle.text.proofs.Decimal.{decimal-low, decimal-high, decimal-two, decimal-pair}
 
 -- A number below ten has one digit.
 pub length-low : (n : ℕ) → n < 10 → length (decimal n) ≡ 1
@@ -19,6 +19,14 @@ length-low n h = rw (decimal-low n h)
 -- Any other has one more than the number without its last digit.
 pub length-high : (n : ℕ) → 10 ≤ n → length (decimal n) ≡ length (decimal (n / 10)) + 1
 length-high n h = rw (decimal-high n h) (length-append (decimal (n / 10)) (digit n ∷ []))
+
+-- A number from ten to 99 has two.
+pub length-two : (n : ℕ) → 10 ≤ n → n < 100 → length (decimal n) ≡ 2
+length-two n h l = rw (decimal-two n h l)
+
+-- A number from a hundred on has two more than the number without its last two.
+pub length-pair : (n : ℕ) → 100 ≤ n → length (decimal n) ≡ length (decimal (n / 100)) + 2
+length-pair n h = rw (decimal-pair n h) (length-append (decimal (n / 100)) (digit (n / 10) ∷ digit n ∷ []))
 
 -- A number from ten thousand on has four digits more than its ten-thousandth.
 pub length-ten-thousand : (n : ℕ) → 10000 ≤ n → length (decimal n) ≡ length (decimal (n / 10000)) + 4

@@ -1,7 +1,7 @@
 // Text written into a buffer: fixed bytes, decimal numbers, names of keys, and how long these are. A writer answers where its text ends.
 ghost use mathlib.Core.Path.{_≡_};
 ghost use mathlib.Core.List.{[], _∷_};
-ghost use Prim.Native.Nat.{_+_, _%_, _≤_, _<_};
+ghost use Prim.Native.Nat.{_+_, _/_, _%_, _≤_, _<_};
 ghost use lib.ListN.{getD, length, take};
 ghost use Rattle.text.specs.Decimal.{digit, decimal};
 ghost use Rattle.text.specs.Keys.{names, keyText};
@@ -28,6 +28,16 @@ fn put_digit(buffer: &mut [u8], at: usize, n: u64) -> usize
     at + 1
 }
 
+// The last two digits of n.
+fn put_pair(buffer: &mut [u8], at: usize, n: u64) -> usize
+    requires { ⌜ at + 2 ≤ length (now buffer) ⌝ }
+    ensures { λ r. ⌜ Written (now (buffer .entry)) at (digit (n / 10) ∷ digit n ∷ []) (now (buffer .exit)) r ⌝ }
+{
+    let last = put_digit(buffer, at, n / 10);
+    put_digit(buffer, last, n)
+}
+
+// Two digits at a time: half as many calls and divisions.
 pub fn put_decimal(buffer: &mut [u8], at: usize, n: u64) -> usize
     requires { ⌜ Room (now buffer) at (decimal n) ⌝ }
     ensures { λ r. ⌜ Written (now (buffer .entry)) at (decimal n) (now (buffer .exit)) r ⌝ }
@@ -35,8 +45,11 @@ pub fn put_decimal(buffer: &mut [u8], at: usize, n: u64) -> usize
     if n < 10 {
         return put_digit(buffer, at, n);
     }
-    let last = put_decimal(buffer, at, n / 10);
-    put_digit(buffer, last, n)
+    if n < 100 {
+        return put_pair(buffer, at, n);
+    }
+    let last = put_decimal(buffer, at, n / 100);
+    put_pair(buffer, last, n)
 }
 
 // How many digits a number below ten thousand has.
