@@ -1,13 +1,12 @@
 -- The records of version 1 as bytes at their places (numbers by their bytes: Digits). Assumes nothing.
-use Prim.Native.Nat.{ℕ, zero, suc, _+_, _-_, _*_, _/_, _≤_, _<_}
+use Prim.Native.Nat.{ℕ, zero, suc, _+_, _-_, _*_, _/_, _<_}
 use mathlib.Core.Path.{_≡_, refl, sym, ap, _∙_}
 use mathlib.Core.Bool.{Bool, true, false, _&&_}
-use mathlib.Core.List.{List, _∷_}
+use mathlib.Core.List.{List}
 use native.Mathlib.Nat.{add-zero, not-suc-le-zero, le-of-suc-le-suc}
 use native.Mathlib.Omega.{arith}
 use lib.Dec.{leb, eqb}
-use lib.ListN.{length, getD, take, drop, replicate, length-replicate}
-use lib.Seq.{drop-cons}
+use lib.ListN.{length, getD, replicate, length-replicate}
 use borrow.Author.Tests.{leb-true, leb-false, le-leb, lt-leb, eq-eqb, ne-eqb}
 use Rattle.format.specs.Bytes.{byteAt, number, within, fieldsIn}
 use Rattle.format.specs.Layout.{first, noteBytes, mostListed, noteLength, listedCount, isNoteLength, mostBytes}
@@ -30,39 +29,9 @@ single-at (suc k) at p (suc j) h =
 pub single-length : (k at : ℕ) (p : List ℕ) → length (fieldsIn (replicate k 1) at p) ≡ k
 single-length k at p = fields-count (replicate k 1) at p ∙ length-replicate k 1
 
--- Where the bytes are there, the fields are that part of the list.
-pub single-bytes : (k at : ℕ) (p : List ℕ) → at + k ≤ length p → fieldsIn (replicate k 1) at p ≡ take k (drop at p)
-unfolding fieldsIn
-single-bytes zero at p h = refl
-single-bytes (suc k) at p h =
-    let e : suc at ≡ at + 1 = omega arith in
-    let rest : take k (drop (suc at) p) ≡ take k (drop (at + 1) p) = ap (λ (i : ℕ). take k (drop i p)) e in
-    (λ i. number-one at p i ∷ (single-bytes k (at + 1) p (omega arith) ∙ sym rest) i)
-    ∙ sym (ap (take (suc k)) (drop-cons p at 0 (omega arith)))
-
 -- ---- a bell
 
 module _ (p : List ℕ) where
-  -- The key written is the first byte.
-  pub bell-written : bellIn first p .written ≡ byteAt p 0
-  unfolding bellIn fieldsIn
-  bell-written = number-one 0 p
-
-  -- The transposition is the byte after it.
-  pub bell-transposition : bellIn first p .transposition ≡ byteAt p 1
-  unfolding bellIn fieldsIn
-  bell-transposition = number-one 1 p
-
-  -- The least execution time takes two bytes from place 2 on.
-  pub bell-least : bellIn first p .leastExecution ≡ number 2 2 p
-  unfolding bellIn fieldsIn
-  bell-least = refl
-
-  -- The most execution time takes two bytes from place 4 on.
-  pub bell-most : bellIn first p .mostExecution ≡ number 2 4 p
-  unfolding bellIn fieldsIn
-  bell-most = refl
-
   -- The priority is the byte at place 6.
   pub bell-priority : bellIn first p .priority ≡ byteAt p 6
   unfolding bellIn fieldsIn
@@ -120,11 +89,6 @@ module _ (p : List ℕ) where
   -- Each is a byte of the record.
   pub listed-at : (j : ℕ) → j < byteAt p 0 - noteBytes → getD (noteIn first p .listed) j 0 ≡ byteAt p (14 + j)
   listed-at j h = ap (λ (s : List ℕ). getD s j 0) note-listed ∙ single-at (listedBy first p) 14 p j (omega (arith, listed-by))
-
-  -- In a record that is long enough they are its bytes from place 14 on.
-  pub listed-bytes : noteBytes ≤ byteAt p 0 → byteAt p 0 < length p → noteIn first p .listed ≡ take (byteAt p 0 - noteBytes) (drop 14 p)
-  listed-bytes g h =
-      note-listed ∙ ap (λ (k : ℕ). fieldsIn (replicate k 1) 14 p) listed-by ∙ single-bytes (byteAt p 0 - noteBytes) 14 p (omega arith)
 
 -- ---- the length of a note
 

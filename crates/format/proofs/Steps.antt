@@ -9,10 +9,10 @@ use lib.ListN.{length, drop}
 use borrow.Author.Tests.{le-leb, lt-leb, lt-ltb, le-ltb}
 use Rattle.model.specs.Refusals.{wrongEnd, wrongBell, doubledKey, wrongNoteLength, silentKey, wrongTimes, wrongListed}
 use Rattle.format.specs.Bytes.{number}
-use Rattle.format.specs.Layout.{Layout, bellBytes, mostListed, noteLength, isNoteLength}
+use Rattle.format.specs.Layout.{Layout, bellBytes, isNoteLength}
 use Rattle.format.specs.Outcome.{ok, refused}
 use Rattle.format.specs.Phrase.{Bell, Note, sounding, find}
-use Rattle.format.specs.Rules.{bellInRange, bellRules, areTimes, rises, noteRules, bellsRules, notesRules}
+use Rattle.format.specs.Rules.{bellInRange, bellRules, areTimes, rises, noteRules}
 use Rattle.format.specs.Reading.{bellIn, bellRecord, noteIn, noteRecord, bellsFrom, notesFrom}
 
 -- ---- the rules of a bell and of a note
@@ -120,34 +120,3 @@ module _ (l : Layout) (s : List ℕ) (n i at : ℕ) (bs : List Bell) (h : i < n)
     pub stop-notes : (r to : ℕ) → noteRecord l bs (length ns) at (drop at s) ≡ refused r to → notesFrom l s bs (n - i) at ns ≡ refused r to
     unfolding notesFrom
     stop-notes r to e = rw left (simp e)
-
--- ---- the same of the rules, with the rest still to do
-
-module _ (l : Layout) (b : Bell) (rest : List Bell) (at : ℕ) (before : List Bell) where
-  -- A bell that passes is put after those before, and the next has the place after its record.
-  pub next-bell : bellRules before at b ≡ ok b → bellsRules l (b ∷ rest) at before ≡ bellsRules l rest (at + bellBytes l) (before ++ b ∷ [])
-  unfolding bellsRules
-  next-bell e = simp e
-
-  -- A bell that is refused ends the rules of the bells.
-  pub last-bell : (r to : ℕ) → bellRules before at b ≡ refused r to → bellsRules l (b ∷ rest) at before ≡ refused r to
-  unfolding bellsRules
-  last-bell r to e = simp e
-
-module _ (l : Layout) (bs : List Bell) (n : Note) (rest : List Note) (at : ℕ) (before : List Note) where
-  -- A note that lists more than four numbers is refused.
-  pub many : mostListed < length (n .listed) → notesRules l bs (n ∷ rest) at before ≡ refused wrongNoteLength at
-  unfolding notesRules
-  many h = simp (lt-leb _ _ h)
-
-  module _ (h : length (n .listed) ≤ mostListed) where
-    -- A note that passes is put after those before, and the next has the place after its record.
-    pub next-note : noteRules bs (length before) at n ≡ ok n
-        → notesRules l bs (n ∷ rest) at before ≡ notesRules l bs rest (at + (1 + noteLength l (length (n .listed)))) (before ++ n ∷ [])
-    unfolding notesRules
-    next-note e = simp (le-leb _ _ h, e)
-
-    -- A note that is refused ends the rules of the notes.
-    pub last-note : (r to : ℕ) → noteRules bs (length before) at n ≡ refused r to → notesRules l bs (n ∷ rest) at before ≡ refused r to
-    unfolding notesRules
-    last-note r to e = simp (le-leb _ _ h, e)

@@ -1,5 +1,4 @@
 -- What the number 0 promises can be met. Assumes nothing.
-use mathlib.Core.List.{List, [], _∷_}
 use Rattle.model.specs.Exploration.{analysis}
 use Rattle.model.proofs.Example.{kept}
 use Rattle.format.specs.Reading.{reading}

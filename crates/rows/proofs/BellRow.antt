@@ -14,7 +14,7 @@ use Rattle.format.specs.Jobs.{noBell}
 use Rattle.rows.specs.internal.Rows.{BeginsWith, Holds}
 use Rattle.rows.specs.internal.BellRow.{bellWords, bellRow, bellOfRow, bellsOfRows}
 use Rattle.rows.specs.internal.PhraseTable.{bellRowsAt}
-use Rattle.rows.proofs.Records.{Wide, ReadBack, rows-length, drop-placed, part-before, held-word, row-at, holds-none, begins-with-none, begins-with-held, same-held, still-holds, more-held, holds-more}
+use Rattle.rows.proofs.Records.{Wide, ReadBack, rows-length, drop-placed, part-before, held-word, holds-none, begins-with-none, begins-with-held, same-held, still-holds, more-held, holds-more}
 
 -- ---- a row
 
@@ -78,10 +78,6 @@ table-word t n i k x h g =
     sym (getD-drop bellRowsAt t (i * bellWords + k) 0)
     ∙ held-word bellRow bellOfRow bellWords part n noBell x (rows-wide (bellsOfRows part n)) i k h g
 
--- Bell i is the one that is read where its row begins.
-pub bell-at : (t : List ℕ) (n i : ℕ) → i < n → getD (bells t n) i noBell ≡ bellOfRow (drop (i * bellWords) (drop bellRowsAt t))
-bell-at t n i h = row-at bellRow bellOfRow bellWords (drop bellRowsAt t) n noBell i h
-
 -- ---- words placed after the first n rows
 module _ (t : List ℕ) (n at : ℕ) (ws : List ℕ) (g : bellRowsAt + n * bellWords ≤ at) (h : at + length ws ≤ length t) where
   rows-kept : take (n * bellWords) (drop bellRowsAt (placed t at ws)) ≡ take (n * bellWords) (drop bellRowsAt t)
@@ -98,11 +94,6 @@ module _ (t : List ℕ) (n at : ℕ) (ws : List ℕ) (g : bellRowsAt + n * bellW
       let room : n * bellWords ≤ length (drop bellRowsAt (placed t at ws)) =
       omega (arith, length-drop bellRowsAt (placed t at ws), length-placed t at ws h) in
       still-holds bellRow bellOfRow bellWords (drop bellRowsAt t) (drop bellRowsAt (placed t at ws)) n (rows-read-back (bells t n)) x rows-kept room
-
--- Words placed after the rows of these bells leave them.
-pub begins-kept : (bs : List Bell) (t : List ℕ) (at : ℕ) (ws : List ℕ) → bellRowsAt + length bs * bellWords ≤ at → at + length ws ≤ length t
-    → Begins bs t → Begins bs (placed t at ws)
-begins-kept bs t at ws g h x = rows-kept t (length bs) at ws g h ∙ x
 
 -- ---- one bell more, in the row after those of the others
 module _ (t : List ℕ) (i : ℕ) (b : Bell) (x : Table t i) (h : bellRowsAt + (i + 1) * bellWords ≤ length t) where

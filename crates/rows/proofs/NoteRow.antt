@@ -14,7 +14,7 @@ use Rattle.format.specs.Jobs.{struck}
 use Rattle.format.specs.internal.Fits.{All}
 use Rattle.rows.specs.internal.Rows.{BeginsWith}
 use Rattle.rows.specs.internal.PhraseTable.{noteRowsAt}
-use Rattle.rows.specs.internal.NoteRow.{noteWords, struckWord, noteRowOn, noteRow, noteOfRow}
+use Rattle.rows.specs.internal.NoteRow.{noteWords, noteRowOn, noteRow, noteOfRow}
 use Rattle.rows.proofs.Records.{Wide, ReadBack, drop-placed, begins-with-none, begins-with-more}
 
 -- The note lists at most four numbers.
@@ -45,10 +45,6 @@ module _ (bell : ℕ) (n : Note) (h : ListsFew n) where
       ∷ getD (n .listed) 0 0 ∷ getD (n .listed) 1 0 ∷ getD (n .listed) 2 0 ∷ getD (n .listed) 3 0 ∷ bell ∷ []
   unfolding noteRowOn
   row-words = ap (λ (l : List ℕ). n .key ∷ n .earliestRelease ∷ n .latestRelease ∷ n .deadline ∷ length (n .listed) ∷ l ++ bell ∷ []) (padded-words (n .listed) h)
-
-  -- The last of them is the number of the bell that the note strikes, whatever follows.
-  pub row-struck : (more : List ℕ) → getD (noteRowOn bell n ++ more) struckWord 0 ≡ bell
-  row-struck more = ap (λ (r : List ℕ). getD (r ++ more) struckWord 0) row-words
 
 -- The note of a row is read from it, whatever bell it strikes and whatever follows.
 pub row-back-on : (bell : ℕ) (n : Note) (more : List ℕ) → noteOfRow (noteRowOn bell n ++ more) ≡ n

@@ -3,7 +3,7 @@ use Prim.Native.Nat.{ℕ, zero, suc, _+_, _-_, _*_, _≤_, _<_}
 use mathlib.Core.Path.{_≡_, refl, ap, subst, _∙_}
 use mathlib.Core.List.{List, [], _∷_, _++_, append-assoc}
 use native.Mathlib.Omega.{arith}
-use lib.ListN.{length, getD, take, drop, replicate, length-append, List·getD-append}
+use lib.ListN.{length, getD, take, drop, replicate, List·getD-append}
 use lib.Seq.{getD-append-add, drop-at}
 use Rattle.model.specs.Limits.{mostJobs}
 use Rattle.words.specs.Padded.{padded}
@@ -17,7 +17,7 @@ use Rattle.format.specs.internal.Fits.{All}
 use Rattle.format.proofs.Jobs.{each-at, strikes}
 use Rattle.rows.specs.internal.BellRow.{bellWords, bellRow, bellRows, bellOfRow, bellsOfRows}
 use Rattle.rows.specs.internal.NoteRow.{noteWords, noteRow, noteRows, noteOfRow, notesOfRows}
-use Rattle.rows.specs.internal.PhraseTable.{bellRowsAt, noteRowsAt, phraseWords, header, phraseTable, phraseOf, bellWord, noteWord}
+use Rattle.rows.specs.internal.PhraseTable.{bellRowsAt, noteRowsAt, header, phraseTable, phraseOf, bellWord, noteWord}
 use Rattle.rows.proofs.Records.{Wide, records-length, records-word, rows-back}
 use Rattle.rows.proofs.BellRow as bell-rows
 use Rattle.rows.proofs.NoteRow.{ListsFew}
@@ -84,18 +84,9 @@ module _ (x : Phrase) (v : Valid x) where
   unfolding bell-part
   bell-part-length = padded-length (mostBells * bellWords) (bellRows (x .bells)) (omega (arith, bells-length, few-bells))
 
-  note-part-length : length note-part ≡ mostJobs * noteWords
-  unfolding note-part
-  note-part-length = padded-length (mostJobs * noteWords) (noteRows (x .bells) (x .notes)) (omega (arith, notes-length, few-notes))
-
   parts : phraseTable (ok x) ≡ header x ++ (bell-part ++ note-part)
   unfolding bell-part note-part
   parts = refl
-
-  -- The table has one length.
-  pub table-length : length (phraseTable (ok x)) ≡ phraseWords
-  table-length =
-      ap length parts ∙ length-append (header x) (bell-part ++ note-part) ∙ omega (arith, length-append bell-part note-part, bell-part-length, note-part-length)
 
   -- It begins with the header.
   pub header-word : (at : ℕ) → at < bellRowsAt → getD (phraseTable (ok x)) at 0 ≡ getD (header x) at 0

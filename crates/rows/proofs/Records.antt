@@ -130,15 +130,6 @@ module _ {A : Type 0} (row : A → List ℕ) (one : List ℕ → A) (w : ℕ) wh
       ∙ ap (λ (l : List ℕ). getD l (i * w + k) 0) (x .rows)
       ∙ records-word row w (rowsIn one w t n) d e i k (omega (arith, rows-length one w t n)) g
 
-  -- What is read of row i is what the words from there on hold.
-  pub row-at : (t : List ℕ) (n : ℕ) (d : A) (i : ℕ) → i < n → getD (rowsIn one w t n) i d ≡ one (drop (i * w) t)
-  unfolding rowsIn
-  row-at t zero d i h = absurd (omega arith)
-  row-at t (suc n) d zero h = let e : 0 * w ≡ 0 = omega arith in ap (λ (m : ℕ). one (drop m t)) (sym e)
-  row-at t (suc n) d (suc i) h =
-      let e : w + i * w ≡ suc i * w = omega (arith, suc-mul i w) in
-      row-at (drop w t) n d i (omega arith) ∙ ap one (drop-drop (i * w) w t ∙ ap (λ (m : ℕ). drop m t) e)
-
   -- All words hold no row.
   pub holds-none : (t : List ℕ) → Holds row one w t 0
   unfolding records rowsIn All

@@ -1,11 +1,11 @@
 -- A list placed over a part of another, a row in a table as well as a text in a buffer. Assumes nothing.
 use native.Mathlib.Nat.{add-assoc}
-use Prim.Native.Nat.{ℕ, _+_, _-_, _≤_, _<_}
+use Prim.Native.Nat.{ℕ, _+_, _-_, _≤_}
 use mathlib.Core.Path.{_≡_, sym, ap, _∙_}
 use mathlib.Core.List.{List, _++_, append-nil, append-assoc}
 use native.Mathlib.Omega.{arith}
-use lib.ListN.{length, getD, take, drop, length-append, length-drop, drop-of-length-le}
-use lib.Seq.{length-take-le, take-at, drop-at, getD-take, sets, sets-eq, drop-drop, take-all}
+use lib.ListN.{length, take, drop, length-append, length-drop, drop-of-length-le}
+use lib.Seq.{length-take-le, take-at, drop-at, sets, sets-eq, drop-drop, take-all}
 use borrow.Rule.Slice.PartMut.{putMid}
 use Rattle.words.specs.internal.Placed.{placed}
 
@@ -19,9 +19,6 @@ module _ (t : List ℕ) (at : ℕ) (row : List ℕ) (h : at ≤ length t) where
 
   pub take-placed : take (at + length row) (placed t at row) ≡ take at t ++ row
   take-placed = rw split (take-at (take at t ++ row) (drop (at + length row) t) (at + length row) head-length)
-
-  pub placed-word : (m : ℕ) → m < at + length row → getD (placed t at row) m 0 ≡ getD (take at t ++ row) m 0
-  placed-word m g = sym (getD-take (at + length row) (placed t at row) m 0 g) ∙ ap (λ (l : List ℕ). getD l m 0) take-placed
 
 pub length-placed : (t : List ℕ) (at : ℕ) (row : List ℕ) → at + length row ≤ length t → length (placed t at row) ≡ length t
 length-placed t at row h =
