@@ -1,22 +1,24 @@
 /*
- * The phrase check, for hosts in C and C++.
+ * The phrase check, and a phrase read and written, for hosts in C and C++.
  *
- * A phrase file comes in; a verdict, and a text with bounds for each stroke, go out. docs/FORMAT.md describes the file and its refusals.
+ * A phrase file comes in; a verdict, and a text with bounds for each stroke, go out. For editors, a file is read into a struct phrase, and a struct phrase
+ * is written as a file. docs/FORMAT.md describes the file and its refusals.
  *
  *     rt staticlib phrase                                       proves the library and writes target/staticlib/libphrase.a, for x86-64 Linux only
  *     gcc -I host your.c target/staticlib/libphrase.a -o your   links it
  *
  * What holds of every call:
  *
- * - Any file bytes, any table and any length of text are fine; no call fails, allocates or keeps anything.
- * - file, table and text must not be NULL, even with length 0, and must not overlap. A table starts where a uint32_t may start; file and text may
- *   start anywhere. Nothing else may write them while the call runs. An empty C++ vector's data() may be NULL: pass the address of any byte (of any uint32_t
- *   for a table) and length 0 instead.
- * - file is only read. Nothing before a buffer's start or past its length is read or written.
- * - There is no state between calls and none is shared, so calls may run at the same time, on different tables and texts.
+ * - Any file bytes, any table, any phrase and any length of text or file are fine; no call fails, allocates or keeps anything.
+ * - file, table, text and phrase must not be NULL, even with length 0, and must not overlap. A table and a phrase start where a uint32_t may start; file and
+ *   text may start anywhere. Nothing else may write them while the call runs. An empty C++ vector's data() may be NULL: pass the address of any byte (of any
+ *   uint32_t for a table) and length 0 instead.
+ * - What is const is only read. Nothing before a buffer's start or past its length is read or written.
+ * - There is no state between calls and none is shared, so calls may run at the same time, on different tables, texts, phrases and files to be
+ *   written.
  * - A stack of 128 KiB suffices. Measured by tests/host/stack.c, as the part of a painted stack that the call changed, and no more for any phrase that was
- *   tried: phrase_check takes 86 KiB, phrase_report 88, with a lent table 22 and 24. A program that binds memcpy and memset
- *   only when they are first called (-Wl,-z,lazy) needs up to 4 KiB more in that call.
+ *   tried: phrase_check takes 87 KiB, phrase_report 88, with a lent table 23 and 24, phrase_read and phrase_write less than 1. A program that binds
+ *   memcpy and memset only when they are first called (-Wl,-z,lazy) needs up to 4 KiB more in that call.
  */
 #ifndef PHRASE_H
 #define PHRASE_H
@@ -61,7 +63,8 @@ enum phrase_number {
     PHRASE_WAITS = 12,       /* waits do not rise, or are not below the note's own;  place: the note's first byte */
     PHRASE_TABLE_FULL = 13,  /* a level has more states than the table has room for; place: the level */
     PHRASE_LATE = 14,        /* a stroke was not shown to end by its due time;       place: the stroke */
-    PHRASE_TEXT_SHORT = 15   /* the text is longer than its buffer: a report's length is 0. No check answers with it */
+    PHRASE_TEXT_SHORT = 15,  /* the text is longer than its buffer: a report's length is 0. No call answers with it */
+    PHRASE_FILE_SHORT = 16   /* a written file is longer than its buffer;            place: 0. Only phrase_write answers with it */
 };
 
 /*
@@ -87,13 +90,96 @@ uint64_t phrase_check_with(const uint8_t *file, size_t file_len, uint32_t *table
 /* phrase_report with a lent table, which is left as phrase_check_with leaves it, also when the text does not fit. */
 size_t phrase_report_with(const uint8_t *file, size_t file_len, uint32_t *table, size_t table_len, uint8_t *text, size_t text_len);
 
-/* The number in a check's answer, an enum phrase_number; 0 when accepted. */
+/* So many bells and notes a phrase has at most, and so many waits a note lists; no file is longer than PHRASE_FILE_BYTES bytes. */
+#define PHRASE_MOST_BELLS 96
+#define PHRASE_MOST_NOTES 64
+#define PHRASE_MOST_WAITS 4
+#define PHRASE_FILE_BYTES 1832
+
+/* A bell. phrase_write reads what is neither derived nor spare. */
+struct phrase_bell {
+    uint32_t key;           /* N, as written */
+    uint32_t transposition; /* T, as the file's byte: 253 is -3. phrase_semitones and phrase_transposition turn it to and from an int */
+    uint32_t least_hold;    /* ca */
+    uint32_t most_hold;     /* cb */
+    uint32_t rank;          /* p */
+    uint32_t spare;         /* 0 when read; leave it so */
+    uint32_t sounding;      /* derived: the key that the bell sounds for, N + T */
+};
+
+/* A note. */
+struct phrase_note {
+    uint32_t key;                      /* as written */
+    uint32_t earliest_call;            /* ra */
+    uint32_t latest_call;              /* rb */
+    uint32_t due;                      /* d */
+    uint32_t wait_count;               /* how many strokes the note lists to wait for, without the one that its bell adds */
+    uint32_t waits[PHRASE_MOST_WAITS]; /* these, rising; then 0 */
+    uint32_t bell;                     /* derived: the number of the bell that it strikes */
+};
+
+/* A phrase: 1,317 words. Bells from bell_count on, notes from note_count on and waits from wait_count on are 0 when read, and phrase_write ignores them. */
+struct phrase {
+    uint32_t version;
+    uint32_t drivers; /* m */
+    uint32_t bell_count;
+    uint32_t note_count; /* K */
+    uint32_t spare;      /* 0 when read; leave it so */
+    struct phrase_bell bells[PHRASE_MOST_BELLS];
+    struct phrase_note notes[PHRASE_MOST_NOTES];
+};
+
+/* The library takes a struct phrase as the array of its words. An array of negative length stops the compilation where it is not. */
+typedef char phrase_is_its_words[
+    sizeof(struct phrase_bell) == 28 && sizeof(struct phrase_note) == 40 && sizeof(struct phrase) == 5268
+    && offsetof(struct phrase_bell, key) == 0 && offsetof(struct phrase_bell, transposition) == 4
+    && offsetof(struct phrase_bell, least_hold) == 8 && offsetof(struct phrase_bell, most_hold) == 12
+    && offsetof(struct phrase_bell, rank) == 16 && offsetof(struct phrase_bell, spare) == 20
+    && offsetof(struct phrase_bell, sounding) == 24
+    && offsetof(struct phrase_note, key) == 0 && offsetof(struct phrase_note, earliest_call) == 4
+    && offsetof(struct phrase_note, latest_call) == 8 && offsetof(struct phrase_note, due) == 12
+    && offsetof(struct phrase_note, wait_count) == 16 && offsetof(struct phrase_note, waits) == 20
+    && offsetof(struct phrase_note, bell) == 36
+    && offsetof(struct phrase, version) == 0 && offsetof(struct phrase, drivers) == 4
+    && offsetof(struct phrase, bell_count) == 8 && offsetof(struct phrase, note_count) == 12
+    && offsetof(struct phrase, spare) == 16 && offsetof(struct phrase, bells) == 20
+    && offsetof(struct phrase, notes) == 2708 ? 1 : -1];
+
+/*
+ * Reads a file into phrase, every word of which is set: what the file holds, what is derived from it, and 0 in all others.
+ * Gives 0, or the number of one of the refusals 1 to 12 times 4294967296 plus its place, as phrase_check does; then every word of phrase is 0.
+ */
+uint64_t phrase_read(const uint8_t *file, size_t file_len, struct phrase *phrase);
+
+/*
+ * Writes a phrase as a file of its version.
+ * Gives the file's length, which is below 4294967296, so that phrase_refusal of it is 0; the bytes of file past that length are untouched. Otherwise gives a
+ * refusal's number times 4294967296 plus its place, and all of file is untouched: the first of 1, 4, 5, of the bells' 6 and 7, of 8 and of the notes' 9, 10, 11
+ * and 12, in the order of the file, at the place where reading would find the field; then 16 at 0 where file_len is less than the file's length.
+ * A field that is too wide for its bytes is refused like one out of range, and never cut: 6 for a rank or a transposition above 255, 9 for more than four
+ * waits. What was read from a file is written as that very file; what was written is read as the same phrase.
+ */
+uint64_t phrase_write(const struct phrase *phrase, uint8_t *file, size_t file_len);
+
+/* A transposition in semitones, from the file's byte: -128 to 127. 128 for a wider number, which phrase_write refuses. */
+static inline int phrase_semitones(uint32_t transposition)
+{
+    return transposition < 128 ? (int)transposition : transposition < 256 ? (int)transposition - 256 : 128;
+}
+
+/* A transposition as the file's byte. 256, which phrase_write refuses with 6, where it is no signed byte. */
+static inline uint32_t phrase_transposition(int semitones)
+{
+    return semitones < -128 || semitones > 127 ? 256u : (uint32_t)semitones & 0xFFu;
+}
+
+/* The number in an answer of a check, of phrase_read or of phrase_write, an enum phrase_number; 0 when accepted, read or written. */
 static inline uint32_t phrase_refusal(uint64_t answer)
 {
     return (uint32_t)(answer >> 32);
 }
 
-/* The place in a check's answer: for 13 the level, for 14 the stroke, else a position in the file. */
+/* The place in such an answer: for 13 the level, for 14 the stroke, else a position in the file. In one of phrase_write without a number, the file's length. */
 static inline uint32_t phrase_place(uint64_t answer)
 {
     return (uint32_t)(answer & 0xFFFFFFFFu);

@@ -15,14 +15,10 @@
 #include <stdlib.h>
 #include <string.h>
 
+#include "common.h"
 #include "phrase.h"
 
 enum { STATUS_ACCEPTED = 0, STATUS_REFUSED = 1, STATUS_TROUBLE = 2 };
-
-struct bytes {
-    uint8_t *first; /* never NULL once read, even when empty */
-    size_t length;
-};
 
 struct words {
     uint32_t *first;
@@ -33,60 +29,6 @@ static int complain(const char *about, const char *why)
 {
     fprintf(stderr, "player: %s: %s\n", about, why);
     return STATUS_TROUBLE;
-}
-
-/* Doubles the room; 0 when memory is short. The bytes are kept either way. */
-static int grow(struct bytes *bytes, size_t *room)
-{
-    uint8_t *larger;
-    if (*room > SIZE_MAX / 2)
-        return 0;
-    larger = realloc(bytes->first, *room * 2);
-    if (larger == NULL)
-        return 0;
-    bytes->first = larger;
-    *room *= 2;
-    return 1;
-}
-
-/* Reads a stream to its end; 0 and errno when that fails. */
-static int read_stream(FILE *stream, struct bytes *bytes)
-{
-    size_t room = 4096;
-    bytes->length = 0;
-    bytes->first = malloc(room);
-    if (bytes->first == NULL) {
-        errno = ENOMEM;
-        return 0;
-    }
-    for (;;) {
-        bytes->length += fread(bytes->first + bytes->length, 1, room - bytes->length, stream);
-        if (ferror(stream))
-            return 0;
-        if (bytes->length < room)
-            return 1;
-        if (!grow(bytes, &room)) {
-            errno = ENOMEM;
-            return 0;
-        }
-    }
-}
-
-/* Reads a whole file; 0 and errno when that fails. Nothing is left open or allocated then. */
-static int read_file(const char *name, struct bytes *bytes)
-{
-    int complete, error;
-    FILE *stream = fopen(name, "rb");
-    if (stream == NULL)
-        return 0;
-    complete = read_stream(stream, bytes);
-    error = errno;
-    fclose(stream);
-    if (!complete) {
-        free(bytes->first);
-        errno = error;
-    }
-    return complete;
 }
 
 /* A decimal number, digits only, that so many words can have; 0 when it is none. */
@@ -114,25 +56,11 @@ static int make_table(size_t length, struct words *table)
     return table->first != NULL;
 }
 
-static const char *place_name(uint32_t number)
-{
-    switch (number) {
-    case PHRASE_TABLE_FULL:
-        return "level";
-    case PHRASE_LATE:
-        return "stroke";
-    default:
-        return "byte";
-    }
-}
-
 static void print_verdict(const char *name, uint64_t answer)
 {
-    unsigned number = phrase_refusal(answer), place = phrase_place(answer);
-    if (number == PHRASE_ACCEPTED)
-        fprintf(stderr, "player: %s: accepted\n", name);
-    else
-        fprintf(stderr, "player: %s: refused, number %u, %s %u\n", name, number, place_name(number), place);
+    fprintf(stderr, "player: %s: ", name);
+    print_answer(stderr, answer);
+    fprintf(stderr, "\n");
 }
 
 /* Checks the phrase, prints text and verdict, gives the exit status. */

@@ -4,11 +4,13 @@ use std::env;
 use std::path::Path;
 use std::process::Command;
 
-const CALLS: [&str; 4] = [
+const CALLS: [&str; 6] = [
     "phrase_check",
     "phrase_report",
     "phrase_check_with",
     "phrase_report_with",
+    "phrase_read",
+    "phrase_write",
 ];
 
 fn main() {
@@ -33,7 +35,7 @@ fn main() {
     println!("cargo::rustc-link-lib=static=phrase_alone");
 }
 
-/// Makes libphrase_alone.a, in which only the four calls are global: the library's own panic
+/// Makes libphrase_alone.a, in which only the six calls are global: the library's own panic
 /// handler or standard library must not meet this program's.
 fn isolate(library: &Path, out: &Path) -> Result<(), String> {
     let object = out.join("phrase_alone.o");

@@ -1,9 +1,9 @@
 #!/usr/bin/env bash
-# Builds the C side over the proved library and runs it: host/player.c on files good and bad, tests/host/buffers.c on buffers of all kinds, and
-# tests/host/names.c, which provokes every name of the header, all three plainly, with gcc's sanitizers and under valgrind, where these are there;
-# tests/host/threads.c; tests/host/stack.c, which measures the stack; tests/host/growth.c; wrong headers; the C of README.md; and the header from C++ where
-# g++ is. PHRASE_LIB names another library than target/staticlib/libphrase.a, which `rt staticlib phrase` writes; LDLIBS adds to what is linked. What is left
-# out for want of a tool is said, and also appended to the file that LEFT_OUT names, a line each.
+# Builds the C side over the proved library and runs it: host/player.c and host/editor.c on files good and bad, tests/host/buffers.c on buffers of all kinds,
+# tests/host/edits.c on phrases, and tests/host/names.c, which provokes every name of the header, all five plainly, with gcc's sanitizers and under valgrind,
+# where these are there; tests/host/threads.c; tests/host/stack.c, which measures the stack; tests/host/growth.c; wrong headers; the C of README.md; and the
+# header from C++ where g++ is. PHRASE_LIB names another library than target/staticlib/libphrase.a, which `rt staticlib phrase` writes; LDLIBS adds to what
+# is linked. What is left out for want of a tool is said, and also appended to the file that LEFT_OUT names, a line each.
 set -euo pipefail
 cd "$(dirname "$0")/.."
 library=$(realpath -m "${PHRASE_LIB:-target/staticlib/libphrase.a}")
@@ -63,6 +63,18 @@ build() {
   passes "$name" gcc -std=c99 -Wall -Wextra -Wpedantic -Werror "$@" -I host "$source" "$library" "${libraries[@]}" -o "$output"
 }
 
+# runs NAME STATUS TEXT COMPLAINT COMMAND..: the command ends with this status, with TEXT on standard output and COMPLAINT on standard error.
+runs() {
+  local name=$1 due=$2 status=0
+  printf '%b' "$3" >"$folder/text"
+  printf '%b' "$4" >"$folder/complaint"
+  shift 4
+  "$@" >"$folder/out" 2>"$folder/err" || status=$?
+  [ "$status" -eq "$due" ] || echo "(exit status $status, not $due)" >>"$folder/err"
+  same "$name: standard output" "$folder/text" "$folder/out"
+  same "$name: standard error" "$folder/complaint" "$folder/err"
+}
+
 # ---- Files for the player ----
 
 p=examples/phrase-p.phrase
@@ -73,17 +85,11 @@ head -c 300000 /dev/zero >"$folder/long"
 # A right count, 299995 (000493DB), and bytes that remain.
 { printf '\x01\x00\x04\x93\xDB'; tail -c +6 "$p"; head -c 299950 /dev/zero; } >"$folder/remains"
 
-# plays HOW STATUS TEXT VERDICT ARGUMENT..: the player ends with this status, with TEXT on standard output and VERDICT on standard error.
-# HOW names the way that it is run, `player` holds the command.
+# plays HOW STATUS TEXT VERDICT ARGUMENT..: the player, in `player`, ends so. HOW names the way that it is run.
 plays() {
-  local how=$1 due=$2 status=0
-  printf '%b' "$3" >"$folder/text"
-  printf '%b' "$4" >"$folder/verdict"
+  local how=$1 status=$2 text=$3 verdict=$4
   shift 4
-  "${player[@]}" "$@" >"$folder/out" 2>"$folder/err" || status=$?
-  [ "$status" -eq "$due" ] || echo "(exit status $status, not $due)" >>"$folder/err"
-  same "$how: player $*: text" "$folder/text" "$folder/out"
-  same "$how: player $*: verdict" "$folder/verdict" "$folder/err"
+  runs "$how: player $*" "$status" "$text" "$verdict" "${player[@]}" "$@"
 }
 
 # play_all HOW: everything that the player can answer.
@@ -112,6 +118,149 @@ play_all() {
   done
 }
 
+# ---- Files for the editor, and what it has to make of them ----
+
+# changed FILE [PLACE BYTE]..: the file with some bytes changed, places rising, bytes in hexadecimal.
+changed() {
+  local file=$1 at=0
+  shift
+  while [ $# -gt 0 ]; do
+    head -c "$1" "$file" | tail -c +$((at + 1))
+    printf '%b' "\\x$2"
+    at=$(($1 + 1))
+    shift 2
+  done
+  tail -c +$((at + 1)) "$file"
+}
+etude=examples/etude.phrase
+# P with a third bell, key 64, which no note strikes.
+{ printf '\x01\x00\x00\x00\x34\x01\x03'; head -c 21 "$p" | tail -c 14; printf '\x40\x00\x00\x01\x00\x01\x03'; tail -c +22 "$p"; } >"$folder/third"
+changed "$folder/third" 22 FE >"$folder/third-down"
+changed "$folder/third" 22 18 >"$folder/third-up"
+changed "$p" 35 9D 49 9C >"$folder/later"
+changed "$p" 35 06 49 05 >"$folder/sooner"
+changed "$p" 33 36 34 EE 35 80 47 36 48 EE 49 7F >"$folder/latest"
+changed "$p" 15 05 35 11 37 43 49 10 >"$folder/both"
+changed "$etude" 36 FF 107 46 206 46 >"$folder/etude-up"
+printf 'kept' >"$folder/kept"
+out=$folder/edited
+
+# edits HOW STATUS TEXT COMPLAINT DUE IN OPTION..: the editor, in `editor`, ends so on IN, and OUT, which was `kept` before, is the file DUE then.
+edits() {
+  local how=$1 status=$2 text=$3 complaint=$4 due=$5 in=$6
+  shift 6
+  cp "$folder/kept" "$out"
+  runs "$how: editor $in OUT $*" "$status" "$text" "$complaint" "${editor[@]}" "$in" "$out" "$@"
+  same "$how: editor $in OUT $*: OUT" "$due" "$out"
+}
+
+# writes HOW DUE TEXT IN OPTION..: it says TEXT and that the phrase is accepted before and after.
+writes() {
+  local how=$1 due=$2 text=$3
+  shift 3
+  edits "$how" 0 "${text}before: accepted\nafter: accepted\n" '' "$due" "$@"
+}
+
+# refuses HOW COMPLAINT IN OPTION..: it refuses what it would write, and OUT is kept.
+refuses() {
+  local how=$1 complaint=$2
+  shift 2
+  edits "$how" 1 '' "editor: $out: refused, number $complaint\n" "$folder/kept" "$@"
+}
+
+# troubles HOW COMPLAINT IN OPTION..: it does not get so far, and OUT is kept.
+troubles() {
+  local how=$1 complaint=$2
+  shift 2
+  edits "$how" 2 '' "$complaint\n" "$folder/kept" "$@"
+}
+
+# edit_all HOW: what is written. Most of it is undone by its opposite. Last a new file, and that file in place.
+edit_all() {
+  local f=$folder text
+  writes "$1" "$f/third-down" 'bell 2: transposition 0 -> -2, sounding key 64 -> 62\nbytes: 57, 1 changed\n' "$f/third" --bell 2 --transpose -2
+  writes "$1" "$f/third" 'bell 2: transposition -2 -> 0, sounding key 62 -> 64\nbytes: 57, 1 changed\n' "$f/third-down" --transpose 0 --bell 2
+  writes "$1" "$f/third-up" 'bell 2: transposition 0 -> 24, sounding key 64 -> 88\nbytes: 57, 1 changed\n' "$f/third" --bell 2 --transpose 24
+  writes "$1" "$f/third" 'bytes: 57, 0 changed\n' "$f/third" --bell 2 --transpose 0
+  writes "$1" "$f/later" 'due times: 2 moved by 150\nbytes: 50, 2 changed\n' "$p" --due 150
+  writes "$1" "$p" 'due times: 2 moved by -150\nbytes: 50, 2 changed\n' "$f/later" --due -150
+  writes "$1" "$f/latest" 'due times: 2 moved by 3599993\nbytes: 50, 6 changed\n' "$p" --due 3599993
+  writes "$1" "$p" 'due times: 2 moved by -3599993\nbytes: 50, 6 changed\n' "$f/latest" --due -3599993
+  text='due times: 2 moved by -1\nbytes: 50, 2 changed\nbefore: accepted\nafter: refused, number 14, stroke 1\n'
+  edits "$1" 0 "$text" '' "$f/sooner" "$p" --due -1
+  text='due times: 2 moved by 1\nbytes: 50, 2 changed\nbefore: refused, number 14, stroke 1\nafter: accepted\n'
+  edits "$1" 0 "$text" '' "$p" "$f/sooner" --due 1
+  text='bell 1: transposition 12 -> 5, sounding key 74 -> 67\nnote 1: key 74 -> 67\ndue times: 2 moved by 10\nbytes: 50, 4 changed\n'
+  writes "$1" "$f/both" "$text" "$p" --due 10 --bell 1 --follow --transpose 5
+  text='bell 4: transposition -2 -> -1, sounding key 69 -> 70\nnote 3: key 69 -> 70\nnote 10: key 69 -> 70\nbytes: 407, 3 changed\n'
+  writes "$1" "$f/etude-up" "$text" "$etude" --bell 4 --transpose -1 --follow
+  text='bell 4: transposition -1 -> -2, sounding key 70 -> 69\nnote 3: key 70 -> 69\nnote 10: key 70 -> 69\nbytes: 407, 3 changed\n'
+  writes "$1" "$etude" "$text" "$f/etude-up" --bell 4 --transpose -2 --follow
+  rm "$out"
+  text='due times: 2 moved by 150\nbytes: 50, 2 changed\nbefore: accepted\nafter: accepted\n'
+  runs "$1: editor, a new file" 0 "$text" '' "${editor[@]}" "$p" "$out" --due 150
+  same "$1: editor, a new file: OUT" "$f/later" "$out"
+  text='due times: 2 moved by -150\nbytes: 50, 2 changed\nbefore: accepted\nafter: accepted\n'
+  runs "$1: editor, in place" 0 "$text" '' "${editor[@]}" "$out" "$out" --due -150
+  same "$1: editor, in place: OUT" "$p" "$out"
+}
+
+# edit_refused HOW: what is refused, in IN or as OUT, which stays as it is, or is not made.
+edit_refused() {
+  local f=$folder number status=0
+  edits "$1" 1 '' "editor: $f/bell: refused, number 6, byte 7\n" "$f/kept" "$f/bell" --due 1
+  edits "$1" 1 '' "editor: $f/empty: refused, number 2, byte 0\n" "$f/kept" "$f/empty" --due 1
+  edits "$1" 1 '' "editor: $f/long: refused, number 1, byte 0\n" "$f/kept" "$f/long" --due 1
+  edits "$1" 1 '' "editor: $f/remains: refused, number 3, byte 50\n" "$f/kept" "$f/remains" --bell 0 --transpose 0
+  for number in 25 -25 127 -128 128 254 -129 256 2147483647 -2147483648; do
+    refuses "$1" '6, byte 21: bell 2: the transposition, or the key that it sounds for, is out of range' "$f/third" --bell 2 --transpose "$number"
+    refuses "$1" '6, byte 7: bell 0: the transposition, or the key that it sounds for, is out of range' "$p" --bell 0 --transpose "$number" --follow
+  done
+  refuses "$1" '7, byte 21: bell 2: an earlier bell sounds for the same key' "$f/third" --bell 2 --transpose 10
+  refuses "$1" '7, byte 21: bell 2: an earlier bell sounds for the same key' "$f/third" --bell 0 --transpose 4
+  refuses "$1" '10, byte 106: note 3: no bell sounds for its key any more' "$etude" --bell 4 --transpose -1
+  refuses "$1" '10, byte 190: note 9: no bell sounds for its key any more' "$etude" --bell 7 --transpose 11
+  for number in 3599994 4294967288 4294967289 4294967290 4294967295 -8 -4294967295; do
+    refuses "$1" '11, byte 22: note 0: the due time is out of range' "$p" --due "$number"
+  done
+  refuses "$1" '11, byte 36: note 1: the due time is out of range' "$p" --due -7
+  refuses "$1" '11, byte 393: note 23: the due time is out of range' "$etude" --due 3597441
+  rm "$out"
+  runs "$1: editor, no new file" 1 '' "editor: $out: refused, number 11, byte 22: note 0: the due time is out of range\n" "${editor[@]}" "$p" "$out" --due -8
+  [ ! -e "$out" ] || status=1
+  verdict "$1: editor, no new file: OUT is there" "$status"
+}
+
+# edit_trouble HOW: files that cannot be read or written, a bell that is not there, and wrong usage.
+edit_trouble() {
+  local f=$folder options list usage='usage: editor IN OUT [--bell N --transpose SEMITONES [--follow]] [--due MILLISECONDS]'
+  troubles "$1" "editor: $f/missing: No such file or directory" "$f/missing" --due 1
+  troubles "$1" "editor: $f: Is a directory" "$f" --due 1
+  for options in 2 95 96 4294967295; do
+    troubles "$1" "editor: $p: there is no such bell" "$p" --bell "$options" --transpose 0
+  done
+  runs "$1: editor, OUT a folder" 2 '' "editor: $f: Is a directory\n" "${editor[@]}" "$p" "$f" --due 1
+  runs "$1: editor, OUT nowhere" 2 '' "editor: $f/no/where: No such file or directory\n" "${editor[@]}" "$p" "$f/no/where" --due 1
+  runs "$1: editor, OUT a full device" 2 '' 'editor: /dev/full: No space left on device\n' "${editor[@]}" "$p" /dev/full --due 1
+  for options in '' - -- +1 1x ' 1' 0x1 1.5 4294967296 -4294967296 9223372036854775808 -99999999999999999999; do
+    troubles "$1" "$usage" "$p" --due "$options"
+  done
+  for options in '' '--bell' '--bell 0' '--transpose 0' '--due' '--follow' '--due 1 --follow' '--due 1 2' '--key 1' '--due 1 --bell 0' '--due 1 --help' \
+    '--bell -1 --transpose 0' '--bell 4294967296 --transpose 0' '--bell 0 --transpose 2147483648' '--bell 0 --transpose -2147483649'; do
+    read -ra list <<<"$options"
+    troubles "$1" "$usage" "$p" "${list[@]}"
+  done
+  runs "$1: editor" 2 '' "$usage\n" "${editor[@]}"
+  runs "$1: editor IN" 2 '' "$usage\n" "${editor[@]}" "$p"
+  runs "$1: editor --due 1" 2 '' "$usage\n" "${editor[@]}" --due 1
+  for options in -h --help; do
+    passes "$1: editor $options" "${editor[@]}" "$options" || true
+    head -n 1 "$folder/log" >"$folder/out"
+    printf '%s\n' "$usage" >"$folder/text"
+    same "$1: editor $options: its first line" "$folder/text" "$folder/out"
+  done
+}
+
 # ---- Plainly ----
 
 if build 'host/player.c builds' host/player.c "$folder/player" -O2; then
@@ -122,8 +271,17 @@ if build 'host/player.c builds' host/player.c "$folder/player" -O2; then
   "$folder/player" "$p" >/dev/full 2>/dev/null || status=$?
   verdict "player with a full device as its output: exit status $status, not 2" $((status != 2))
 fi
+if build 'host/editor.c builds' host/editor.c "$folder/editor" -O2; then
+  editor=("$folder/editor")
+  edit_all plain
+  edit_refused plain
+  edit_trouble plain
+  status=0
+  "$folder/editor" "$p" "$out" --due 150 >/dev/full 2>/dev/null || status=$?
+  verdict "editor with a full device as its output: exit status $status, not 2" $((status != 2))
+fi
 counted=0
-for test in buffers names; do
+for test in buffers edits names; do
   if build "tests/host/$test.c builds" "tests/host/$test.c" "$folder/$test" -O2; then
     passes "$test" "$folder/$test" || true
     found=$(sed -n "s/^$test: \([0-9]*\) checks passed\$/\1/p" "$folder/log")
@@ -165,7 +323,8 @@ if build 'tests/host/growth.c builds' tests/host/growth.c "$folder/growth" -O2; 
   passes 'growth' "$folder/growth" 10 || true
 fi
 
-# ---- Wrong headers: names.c has to see each number that is one more, and no other processor gets the header ----
+# ---- Wrong headers: names.c has to see each number that is one more, or else the header itself; the header has to see each field of a phrase that is wider
+# or that stands elsewhere; and no other processor gets it ----
 
 mkdir "$folder/wrong"
 names=0
@@ -175,12 +334,34 @@ while read -r name number; do
   status=0
   if gcc -std=c99 -I "$folder/wrong" tests/host/names.c "$library" "${libraries[@]}" -o "$folder/wrong/names" >"$folder/log" 2>&1; then
     "$folder/wrong/names" >"$folder/log" 2>&1 || status=$?
+  elif grep -q phrase_is_its_words "$folder/log"; then
+    status=1
   fi
   verdict "a header with $name $((number + 1)) is seen by names.c: exit status $status, not 1" $((status != 1)) "$folder/log"
 done < <(sed -nE 's/^(#define|   ) (PHRASE_[A-Z_]+)( =)? ([0-9]+).*/\2 \4/p' host/phrase.h)
-verdict "the header has $names names with numbers, not 18" $((names != 18))
+verdict "the header has $names names with numbers, not 23" $((names != 23))
 
 echo '#include "phrase.h"' >"$folder/other.c"
+# misfits WHAT: the wrong header does not compile, and it is the struct that is at fault.
+misfits() {
+  local status=0
+  gcc -std=c99 -I "$folder/wrong" -fsyntax-only "$folder/other.c" >"$folder/log" 2>&1 && status=1
+  grep -q phrase_is_its_words "$folder/log" || status=1
+  verdict "a header with $1 does not compile" "$status" "$folder/log"
+}
+field='^    (uint32_t|struct phrase_[a-z]+) [a-z_]+(\[[A-Z_]+\])?;'
+fields=0
+while read -r line; do
+  name=$(sed -nE "${line}s/^    ([^;]*);.*/\1/p" host/phrase.h)
+  fields=$((fields + 1))
+  sed "${line}s/uint32_t\|struct phrase_[a-z]*/uint64_t/" host/phrase.h >"$folder/wrong/phrase.h"
+  misfits "a wider $name"
+  if sed -n "$((line + 1))p" host/phrase.h | grep -Eq "$field"; then
+    sed -e "$line{h;d}" -e "$((line + 1))G" host/phrase.h >"$folder/wrong/phrase.h"
+    misfits "$name after the field that follows it"
+  fi
+done < <(grep -nE "$field" host/phrase.h | cut -d: -f1)
+verdict "the structs have $fields fields, not 21" $((fields != 21))
 status=0
 gcc -std=c99 -U__x86_64__ -I host -fsyntax-only "$folder/other.c" >"$folder/log" 2>&1 && status=1
 grep -q '#error "libphrase.a is for x86-64 only"' "$folder/log" || status=1
@@ -212,6 +393,10 @@ fi
 if passes 'host/Makefile builds' make -s -C host PHRASE_LIB="$library" LDLIBS="${LDLIBS:-}" OUT="$folder/made"; then
   player=("$folder/made/player")
   plays made 0 "$(cat examples/phrase-p.report)\n" "player: $p: accepted\n" "$p"
+  editor=("$folder/made/editor")
+  writes made "$folder/later" 'due times: 2 moved by 150\nbytes: 50, 2 changed\n' "$p" --due 150
+  passes 'host/Makefile removes' make -s -C host PHRASE_LIB="$library" OUT="$folder/made" clean || true
+  verdict 'host/Makefile leaves what it built' "$(find "$folder/made" -type f | wc -l)"
 fi
 
 # ---- With sanitizers, where the compiler has them. They watch the C side; of the library they see what it asks of C's own functions ----
@@ -223,7 +408,13 @@ if gcc "${sanitized[@]}" "$folder/none.c" -o "$folder/none" >"$folder/log" 2>&1 
     player=("$folder/player-sanitized")
     play_all sanitized
   fi
-  for test in buffers names; do
+  if build 'host/editor.c builds with sanitizers' host/editor.c "$folder/editor-sanitized" "${sanitized[@]}"; then
+    editor=("$folder/editor-sanitized")
+    edit_all sanitized
+    edit_refused sanitized
+    edit_trouble sanitized
+  fi
+  for test in buffers edits names; do
     if build "tests/host/$test.c builds with sanitizers" "tests/host/$test.c" "$folder/$test-sanitized" "${sanitized[@]}"; then
       passes "$test with sanitizers" "$folder/$test-sanitized" || true
     fi
@@ -245,7 +436,14 @@ if command -v valgrind >/dev/null; then
     plays valgrind 1 'refused 2 at 0\n' "player: $folder/empty: refused, number 2, byte 0\n" "$folder/empty" 0
     plays valgrind 2 '' "player: $folder: Is a directory\n" "$folder"
   fi
-  for test in buffers names; do
+  if [ -x "$folder/editor" ]; then
+    editor=("${grind[@]}" "$folder/editor")
+    edit_all valgrind
+    edits valgrind 1 '' "editor: $folder/bell: refused, number 6, byte 7\n" "$folder/kept" "$folder/bell" --due 1
+    refuses valgrind '10, byte 190: note 9: no bell sounds for its key any more' "$etude" --bell 7 --transpose 11
+    troubles valgrind "editor: $p: there is no such bell" "$p" --bell 2 --transpose 0
+  fi
+  for test in buffers edits names; do
     if [ -x "$folder/$test" ]; then
       passes "$test under valgrind" "${grind[@]}" "$folder/$test" || true
     fi
@@ -258,6 +456,7 @@ fi
 
 if command -v g++ >/dev/null; then
   cat >"$folder/host.cpp" <<'END'
+#include <algorithm>
 #include <vector>
 
 #include "phrase.h"
@@ -271,14 +470,22 @@ int main()
     bool refused = phrase_refusal(answer) == PHRASE_DRIVERS && phrase_place(answer) == 5;
     bool same = phrase_check_with(file, sizeof file, table, 4) == answer;
     bool written = phrase_report(file, sizeof file, text, 15) == 15 && phrase_report_with(file, sizeof file, table, 4, text, 14) == 0;
+    static phrase read; // a struct needs no typedef here
+    uint8_t again[50];
+    bool unread = phrase_read(file, sizeof file, &read) == answer && phrase_refusal(phrase_write(&read, again, 50)) == PHRASE_VERSION;
+    read.version = read.drivers = read.bell_count = 1;
+    read.bells[0] = phrase_bell{62, phrase_transposition(-2), 1, 1, 0, 0, 0};
+    const uint8_t due[] = {0x01, 0, 0, 0, 10, 1, 1, 62, 254, 0, 1, 0, 1, 0, 0};
+    bool edited = phrase_write(&read, again, 50) == sizeof due && std::equal(due, due + sizeof due, again) && phrase_read(due, sizeof due, &read) == 0
+                  && read.bells[0].sounding == 60 && phrase_semitones(read.bells[0].transposition) == -2;
     const std::vector<uint8_t> none;
     bool empty = phrase_check(none.empty() ? file : none.data(), none.size()) == PHRASE_COUNT * UINT64_C(4294967296);
-    return refused && same && written && empty ? 0 : 1;
+    return refused && same && written && unread && edited && empty ? 0 : 1;
 }
 END
   if passes 'phrase.h builds as C++' g++ -std=c++11 -Wall -Wextra -Wpedantic -Werror -I host "$folder/host.cpp" "$library" "${libraries[@]}" \
     -o "$folder/host"; then
-    passes 'the four calls from C++' "$folder/host" || true
+    passes 'the six calls from C++' "$folder/host" || true
   fi
 else
   left_out 'the header from C++' 'there is no g++ here'

@@ -1,5 +1,7 @@
 //! A phrase file before it is written; every field, counts and lengths too, may be wrong.
 
+use crate::writing::{EditedBell, EditedNote, EditedPhrase};
+
 #[derive(Clone, Debug, PartialEq, Eq)]
 pub struct DraftBell {
     pub written: u8,
@@ -91,5 +93,121 @@ pub fn correct_count(file: &mut [u8], error: u32) {
     if file.len() >= 5 {
         let count = (file.len() as u32 - 5).wrapping_add(error);
         file[1..5].copy_from_slice(&count.to_be_bytes());
+    }
+}
+
+impl Draft {
+    /// The draft of the file that a phrase would be written as, whatever rules it breaks; none if a field is too wide for
+    /// its bytes.
+    pub fn of(phrase: &EditedPhrase) -> Option<Draft> {
+        let bell_fits = |bell: &EditedBell| {
+            let bytes = [bell.written, bell.transposition, bell.rank];
+            fit_a_byte(&bytes) && bell.ca.max(bell.cb) <= 65_535
+        };
+        let note_fits = |note: &EditedNote| {
+            // The file has the count as a part of the note's length.
+            let longest = 255 - 13;
+            note.wait_count <= longest && fit_a_byte(&[note.key]) && fit_a_byte(note.waits())
+        };
+        let head = [phrase.version, phrase.drivers, phrase.bell_count];
+        let fits = fit_a_byte(&head)
+            && phrase.bells().iter().all(bell_fits)
+            && fit_a_byte(&[phrase.note_count])
+            && phrase.notes().iter().all(note_fits);
+        fits.then(|| Draft::cut(phrase))
+    }
+
+    /// The same with every field cut to its bytes, counts too: what a careless writer would make of the phrase.
+    pub fn cut(phrase: &EditedPhrase) -> Draft {
+        let bells = phrase.bells.iter().map(cut_bell);
+        let notes = phrase.notes.iter().map(cut_note);
+        let (bell_count, stroke_count) = (phrase.bell_count as u8, phrase.note_count as u8);
+        Draft {
+            version: phrase.version as u8,
+            count_error: 0,
+            drivers: phrase.drivers as u8,
+            bell_count,
+            bells: bells.take(bell_count.into()).collect(),
+            stroke_count,
+            notes: notes.take(stroke_count.into()).collect(),
+            rest: Vec::new(),
+        }
+    }
+}
+
+fn fit_a_byte(values: &[u32]) -> bool {
+    values.iter().all(|&value| value <= 255)
+}
+
+fn cut_bell(bell: &EditedBell) -> DraftBell {
+    DraftBell {
+        written: bell.written as u8,
+        transposition: bell.transposition as i8,
+        ca: bell.ca as u16,
+        cb: bell.cb as u16,
+        rank: bell.rank as u8,
+    }
+}
+
+fn cut_note(note: &EditedNote) -> DraftNote {
+    let length = (note.wait_count as u8).wrapping_add(13);
+    let listed = usize::from(length.saturating_sub(13));
+    DraftNote {
+        length,
+        key: note.key as u8,
+        ra: note.ra,
+        rb: note.rb,
+        due: note.due,
+        waits: (note.waits.iter().take(listed))
+            .map(|&wait| wait as u8)
+            .collect(),
+    }
+}
+
+/// The phrase of a draft, with the counts that the draft has; zero in all rows that it does not have.
+impl From<&Draft> for EditedPhrase {
+    fn from(draft: &Draft) -> EditedPhrase {
+        let mut phrase = EditedPhrase::zero();
+        phrase.version = draft.version.into();
+        phrase.drivers = draft.drivers.into();
+        phrase.bell_count = draft.bell_count.into();
+        phrase.note_count = draft.stroke_count.into();
+        for (row, bell) in phrase.bells.iter_mut().zip(&draft.bells) {
+            *row = bell.into();
+        }
+        for (row, note) in phrase.notes.iter_mut().zip(&draft.notes) {
+            *row = note.into();
+        }
+        phrase
+    }
+}
+
+impl From<&DraftBell> for EditedBell {
+    fn from(bell: &DraftBell) -> EditedBell {
+        EditedBell {
+            written: bell.written.into(),
+            transposition: u32::from(bell.transposition as u8),
+            ca: bell.ca.into(),
+            cb: bell.cb.into(),
+            rank: bell.rank.into(),
+        }
+    }
+}
+
+/// The waits say how many they are; the length byte is left out.
+impl From<&DraftNote> for EditedNote {
+    fn from(note: &DraftNote) -> EditedNote {
+        let mut edited = EditedNote {
+            key: note.key.into(),
+            ra: note.ra,
+            rb: note.rb,
+            due: note.due,
+            wait_count: note.waits.len() as u32,
+            ..EditedNote::default()
+        };
+        for (row, &wait) in edited.waits.iter_mut().zip(&note.waits) {
+            *row = wait.into();
+        }
+        edited
     }
 }

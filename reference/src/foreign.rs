@@ -1,6 +1,185 @@
-//! The product's C calls, from the static library that build.rs names.
+//! The product's C calls, from the static library that build.rs names, and the header's structs.
+
+use std::array;
+
+use crate::reading::{MOST_BELLS, MOST_STROKES, MOST_WAITS, Phrase};
+use crate::writing::{EditedBell, EditedNote, EditedPhrase};
+
+/// The header's struct phrase_bell.
+#[repr(C)]
+#[derive(Clone, Copy, Debug, PartialEq, Eq)]
+pub struct HostBell {
+    pub key: u32,
+    pub transposition: u32,
+    pub least_hold: u32,
+    pub most_hold: u32,
+    pub rank: u32,
+    pub spare: u32,
+    /// Derived.
+    pub sounding: u32,
+}
+
+/// The header's struct phrase_note.
+#[repr(C)]
+#[derive(Clone, Copy, Debug, PartialEq, Eq)]
+pub struct HostNote {
+    pub key: u32,
+    pub earliest_call: u32,
+    pub latest_call: u32,
+    pub due: u32,
+    pub wait_count: u32,
+    pub waits: [u32; MOST_WAITS],
+    /// Derived.
+    pub bell: u32,
+}
+
+/// The header's struct phrase. Equal means equal in every word.
+#[repr(C)]
+#[derive(Clone, Debug, PartialEq, Eq)]
+pub struct HostPhrase {
+    pub version: u32,
+    pub drivers: u32,
+    pub bell_count: u32,
+    pub note_count: u32,
+    pub spare: u32,
+    pub bells: [HostBell; MOST_BELLS as usize],
+    pub notes: [HostNote; MOST_STROKES],
+}
+
+// Words alone, with no gaps between them, as the header has it.
+const _: () = assert!(size_of::<HostPhrase>() == 5_268 && align_of::<HostPhrase>() == 4);
+
+impl HostPhrase {
+    /// Every word from `content`.
+    pub fn filled(mut content: impl FnMut() -> u32) -> HostPhrase {
+        let content = &mut content;
+        HostPhrase {
+            version: content(),
+            drivers: content(),
+            bell_count: content(),
+            note_count: content(),
+            spare: content(),
+            bells: array::from_fn(|_| HostBell::filled(content)),
+            notes: array::from_fn(|_| HostNote::filled(content)),
+        }
+    }
+
+    pub fn zero() -> HostPhrase {
+        HostPhrase::filled(|| 0)
+    }
+
+    /// A phrase to write, with all its rows; what is derived or spare comes from `content`.
+    pub fn of(phrase: &EditedPhrase, content: impl FnMut() -> u32) -> HostPhrase {
+        let mut host = HostPhrase::filled(content);
+        host.version = phrase.version;
+        host.drivers = phrase.drivers;
+        host.bell_count = phrase.bell_count;
+        host.note_count = phrase.note_count;
+        for (row, bell) in host.bells.iter_mut().zip(&phrase.bells) {
+            row.set(bell);
+        }
+        for (row, note) in host.notes.iter_mut().zip(&phrase.notes) {
+            row.set(note);
+        }
+        host
+    }
+
+    /// Without what is derived or spare.
+    pub fn edited(&self) -> EditedPhrase {
+        EditedPhrase {
+            version: self.version,
+            drivers: self.drivers,
+            bell_count: self.bell_count,
+            note_count: self.note_count,
+            bells: array::from_fn(|number| self.bells[number].edited()),
+            notes: array::from_fn(|number| self.notes[number].edited()),
+        }
+    }
+}
+
+/// What reading has to give: what is derived from the file too, and zero in all other words.
+impl From<&Phrase> for HostPhrase {
+    fn from(phrase: &Phrase) -> HostPhrase {
+        let mut host = HostPhrase::of(&phrase.into(), || 0);
+        for (row, bell) in host.bells.iter_mut().zip(&phrase.bells) {
+            row.sounding = bell.key as u32;
+        }
+        for (row, stroke) in host.notes.iter_mut().zip(&phrase.strokes) {
+            row.bell = stroke.bell as u32;
+        }
+        host
+    }
+}
+
+impl HostBell {
+    fn filled(content: &mut impl FnMut() -> u32) -> HostBell {
+        HostBell {
+            key: content(),
+            transposition: content(),
+            least_hold: content(),
+            most_hold: content(),
+            rank: content(),
+            spare: content(),
+            sounding: content(),
+        }
+    }
+
+    fn set(&mut self, bell: &EditedBell) {
+        self.key = bell.written;
+        self.transposition = bell.transposition;
+        self.least_hold = bell.ca;
+        self.most_hold = bell.cb;
+        self.rank = bell.rank;
+    }
+
+    fn edited(&self) -> EditedBell {
+        EditedBell {
+            written: self.key,
+            transposition: self.transposition,
+            ca: self.least_hold,
+            cb: self.most_hold,
+            rank: self.rank,
+        }
+    }
+}
+
+impl HostNote {
+    fn filled(content: &mut impl FnMut() -> u32) -> HostNote {
+        HostNote {
+            key: content(),
+            earliest_call: content(),
+            latest_call: content(),
+            due: content(),
+            wait_count: content(),
+            waits: array::from_fn(|_| content()),
+            bell: content(),
+        }
+    }
+
+    fn set(&mut self, note: &EditedNote) {
+        self.key = note.key;
+        self.earliest_call = note.ra;
+        self.latest_call = note.rb;
+        self.due = note.due;
+        self.wait_count = note.wait_count;
+        self.waits = note.waits;
+    }
+
+    fn edited(&self) -> EditedNote {
+        EditedNote {
+            key: self.key,
+            ra: self.earliest_call,
+            rb: self.latest_call,
+            due: self.due,
+            wait_count: self.wait_count,
+            waits: self.waits,
+        }
+    }
+}
 
 mod calls {
+    use super::HostPhrase;
+
     unsafe extern "C" {
         pub fn phrase_check(file: *const u8, file_len: usize) -> u64;
         pub fn phrase_report(
@@ -23,6 +202,8 @@ mod calls {
             text: *mut u8,
             text_len: usize,
         ) -> usize;
+        pub fn phrase_read(file: *const u8, file_len: usize, phrase: *mut HostPhrase) -> u64;
+        pub fn phrase_write(phrase: *const HostPhrase, file: *mut u8, file_len: usize) -> u64;
     }
 }
 
@@ -57,4 +238,18 @@ pub fn phrase_report_with(file: &[u8], table: &mut [u32], text: &mut [u8]) -> us
             text.len(),
         )
     }
+}
+
+/// Reads a file into a lent phrase.
+pub fn phrase_read(file: &[u8], phrase: &mut HostPhrase) -> u64 {
+    // SAFETY: the pair is that of a live slice, which the call only reads; the phrase is laid out as in C and lent
+    // mutably, and any words make one.
+    unsafe { calls::phrase_read(file.as_ptr(), file.len(), phrase) }
+}
+
+/// Writes a phrase to a lent buffer. The call may only read the phrase; it is lent mutably so that nothing takes for
+/// granted what a comparison is to find out, that it is unchanged.
+pub fn phrase_write(phrase: &mut HostPhrase, file: &mut [u8]) -> u64 {
+    // SAFETY: the phrase is live and laid out as in C; the pair is that of a live slice, lent mutably.
+    unsafe { calls::phrase_write(phrase, file.as_mut_ptr(), file.len()) }
 }

@@ -1,4 +1,5 @@
-//! The second checker of carillon phrases, written from document 01 alone.
+//! The second checker of carillon phrases, and a second writer of them, made from the documents alone: document 01, and
+//! of document 02 request #101.
 
 pub mod check;
 pub mod dispatch;
@@ -12,3 +13,4 @@ pub mod range;
 pub mod reading;
 pub mod report;
 pub mod walk;
+pub mod writing;

@@ -1,11 +1,13 @@
-//! Random phrase files from a seed: valid ones of many shapes, damaged ones, and large ones.
+//! Random phrase files from a seed: valid ones of many shapes, damaged ones, and large ones; and random phrases to write.
 
 mod damaged;
+mod edited;
 mod generator;
 mod large;
 mod valid;
 
 pub use damaged::damaged;
+pub use edited::{EditedCase, edited, longest};
 pub use generator::Generator;
 pub use valid::{Shape, TINY, accepted_words, draft, tuned, valid};
 
@@ -15,7 +17,8 @@ use crate::reading::{self, Phrase};
 use crate::walk;
 
 /// What `tests/compare.rs` takes unless told otherwise, and `tests/stream.rs` holds to what it has to
-/// cover: so many cases of this seed, and one of the widest for every two thousand of them.
+/// cover: so many cases of this seed, and one of the widest for every two thousand of them. Also what
+/// `tests/compare_writing.rs` takes.
 pub const SEED: u64 = 1;
 pub const CASES: u64 = 20_000;
 pub const CASES_PER_WIDEST: u64 = 2_000;
@@ -37,6 +40,11 @@ pub fn case(seed: u64, number: u64) -> Case {
     };
     let table_words = table_words(&mut random, &file);
     Case { file, table_words }
+}
+
+/// A phrase to write, by number like the others.
+pub fn edited_case(seed: u64, number: u64) -> EditedCase {
+    edited(&mut Generator::of_case(seed, number))
 }
 
 /// A case with levels of thousands of states, by number like the others.

@@ -5,6 +5,7 @@ use crate::range::Range;
 pub const MOST_DRIVERS: u64 = 8;
 pub const MOST_BELLS: u64 = 96;
 pub const MOST_STROKES: usize = 64;
+pub const MOST_WAITS: usize = 4;
 pub const LATEST_TIME: u64 = 3_600_000;
 pub const LONGEST_HOLD: u64 = 5_000;
 pub const LOWEST_KEY: i64 = 12;
@@ -12,11 +13,10 @@ pub const HIGHEST_KEY: i64 = 119;
 pub const WIDEST_TRANSPOSITION: i64 = 24;
 
 /// Version and count; what the count counts begins here.
-const HEAD: usize = 5;
-const BELL_BYTES: usize = 7;
+pub(crate) const HEAD: usize = 5;
+pub(crate) const BELL_BYTES: usize = 7;
 /// Key, ra, rb and d; the waited-for numbers follow.
-const NOTE_FIELDS: usize = 13;
-const MOST_WAITS: usize = 4;
+pub(crate) const NOTE_FIELDS: usize = 13;
 
 #[derive(Clone, Copy, Debug, PartialEq, Eq)]
 pub struct Refusal {
@@ -24,8 +24,19 @@ pub struct Refusal {
     pub place: u64,
 }
 
+impl Refusal {
+    /// What the host's calls return: the number above the place.
+    pub fn host_number(self) -> u64 {
+        self.number * 4_294_967_296 + self.place
+    }
+}
+
 #[derive(Clone, Debug, PartialEq, Eq)]
 pub struct Bell {
+    /// N
+    pub written: u8,
+    /// T
+    pub transposition: i8,
     /// The sounding key: written key plus transposition.
     pub key: i64,
     /// ca..cb
@@ -48,10 +59,13 @@ pub struct Stroke {
     pub rank: u64,
     /// The wait set, rising: the listed strokes and the nearest earlier one of the same bell.
     pub waits: Vec<usize>,
+    /// The one of them that the note does not list: its bell adds it.
+    pub added: Option<usize>,
 }
 
 #[derive(Clone, Debug, PartialEq, Eq)]
 pub struct Phrase {
+    pub version: u64,
     /// m
     pub drivers: usize,
     pub bells: Vec<Bell>,
@@ -66,14 +80,14 @@ impl Phrase {
     }
 }
 
-fn refusal(number: u64, place: usize) -> Refusal {
+pub(crate) fn refusal(number: u64, place: usize) -> Refusal {
     Refusal {
         number,
         place: place as u64,
     }
 }
 
-fn require(met: bool, number: u64, place: usize) -> Result<(), Refusal> {
+pub(crate) fn require(met: bool, number: u64, place: usize) -> Result<(), Refusal> {
     if met {
         Ok(())
     } else {
@@ -131,6 +145,7 @@ pub fn read(file: &[u8]) -> Result<Phrase, Refusal> {
     require(at == file.len(), 3, at)?;
 
     Ok(Phrase {
+        version: u64::from(file[0]),
         drivers: drivers as usize,
         bells,
         strokes,
@@ -152,6 +167,8 @@ fn read_bell(file: &[u8], first: usize) -> Result<Bell, Refusal> {
         && keys.contains(&key);
     require(in_range, 6, first)?;
     Ok(Bell {
+        written: record[0],
+        transposition: record[1] as i8,
         key,
         hold,
         rank: u64::from(record[6]),
@@ -191,10 +208,11 @@ fn read_note(
     let below_own = listed.iter().all(|&number| number < earlier.len());
     require(rising && below_own, 12, first)?;
 
+    let nearest = earlier.iter().rposition(|s| s.bell == bell);
+    let added = nearest.filter(|number| !listed.contains(number));
     let mut waits = listed;
-    waits.extend(earlier.iter().rposition(|s| s.bell == bell));
+    waits.extend(added);
     waits.sort_unstable();
-    waits.dedup();
 
     let stroke = Stroke {
         key,
@@ -204,6 +222,7 @@ fn read_note(
         due,
         rank: bells[bell].rank,
         waits,
+        added,
     };
     Ok((stroke, 1 + length))
 }

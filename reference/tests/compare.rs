@@ -3,12 +3,16 @@
 //! COMPARE_COUNT phrases (20,000) of COMPARE_SEED (1), from number COMPARE_FIRST (0) on, and for every
 //! two thousand one of the widest.
 
+#[path = "common/lent.rs"]
+mod lent;
+#[path = "common/settings.rs"]
+mod settings;
 #[path = "common/tally.rs"]
 mod tally;
 
-use std::env;
 use std::process::ExitCode;
 
+use lent::Lent;
 use reference::check::{Check, HOST_WORDS};
 use reference::draft::{Draft, DraftBell, DraftNote};
 use reference::examples::*;
@@ -17,37 +21,8 @@ use reference::random::{self, Generator, case, widest_case};
 use reference::reading::read;
 use reference::report::check_and_text;
 use reference::walk::{capacity, words_per_state};
+use settings::{in_hexadecimal, named, setting};
 use tally::Tally;
-
-/// Lent bytes and words are followed by so many that were not lent.
-const BEYOND: usize = 64;
-
-/// What the library is lent, with known contents and more of them beyond its end.
-struct Lent<T> {
-    before: Vec<T>,
-    after: Vec<T>,
-    length: usize,
-}
-
-impl<T: Copy + PartialEq> Lent<T> {
-    fn new(length: usize, mut content: impl FnMut() -> T) -> Lent<T> {
-        let before: Vec<T> = (0..length + BEYOND).map(|_| content()).collect();
-        Lent {
-            after: before.clone(),
-            before,
-            length,
-        }
-    }
-
-    fn slice(&mut self) -> &mut [T] {
-        &mut self.after[..self.length]
-    }
-
-    /// Whether everything from `first` on, beyond the lent part too, is as it was.
-    fn untouched_from(&self, first: usize) -> bool {
-        self.before[first..] == self.after[first..]
-    }
-}
 
 struct Trial<'a> {
     file: &'a [u8],
@@ -69,7 +44,7 @@ impl Trial<'_> {
         })?;
 
         let (check, text) = check_and_text(self.file, self.table_words);
-        kinds.add(&check);
+        kinds.add(check.host_number());
         named("phrase_check_with", || {
             let mut table = self.lend_table();
             let number = foreign::phrase_check_with(self.file, table.slice());
@@ -120,10 +95,6 @@ impl Trial<'_> {
     }
 }
 
-fn named(call: &str, compare: impl FnOnce() -> Result<(), String>) -> Result<(), String> {
-    compare().map_err(|difference| format!("{call}: {difference}"))
-}
-
 fn compare_number(check: &Check, found: u64) -> Result<(), String> {
     let expected = check.host_number();
     if found == expected {
@@ -157,17 +128,6 @@ fn compare_text(text: &str, lent: &Lent<u8>, length: usize) -> Result<(), String
         return Err(format!("a byte past the text's {length} was touched"));
     }
     Ok(())
-}
-
-fn setting(name: &str, otherwise: u64) -> Result<u64, String> {
-    match env::var(name) {
-        Ok(value) => value.parse().map_err(|_| format!("{name} is no number")),
-        Err(_) => Ok(otherwise),
-    }
-}
-
-fn in_hexadecimal(file: &[u8]) -> String {
-    file.iter().map(|byte| format!("{byte:02X}")).collect()
 }
 
 fn compare_random_phrases() -> Result<(), String> {

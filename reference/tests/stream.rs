@@ -66,8 +66,8 @@ fn each_kind_of_answer_is_frequent() {
             Ok(walked) => walk(walked).clone().into(),
             Err(refusal) => Check::bare((*refusal).into()),
         };
-        lent.add(&check(|walked| &walked.lent));
-        host.add(&check(|walked| &walked.host));
+        lent.add(check(|walked| &walked.lent).host_number());
+        host.add(check(|walked| &walked.host).host_number());
     }
     lent.print("tables of many lengths");
     host.print("the host's table");

@@ -1,151 +1,19 @@
 /*
- * Calls the four calls of host/phrase.h on files good and bad, with tables and texts of odd sizes and at odd places, and holds answers, texts and all that
- * has to stay to what document 01 says. Every expected value is written here by hand.
- *
- * Each buffer is lent three times: right after a page that faults when touched, right before one, and between bytes that are compared afterwards. Files
- * are lent on pages that fault when written. Everything is done with two fillings, each the other's complement, so that no write can hide.
+ * Calls the six calls of host/phrase.h on files good and bad, with tables, texts and files of odd sizes and at odd places, and holds answers, texts and all
+ * that has to stay to what document 01 and request 101 say. Every expected value is written here by hand. areas.h says how memory is lent.
  *
  * Prints one line for each failure (the first twenty) and a count; exit status 0 when nothing failed.
  */
-#define _DEFAULT_SOURCE /* MAP_ANONYMOUS */
-
-#include <signal.h>
-#include <stdio.h>
-#include <stdlib.h>
-#include <string.h>
-#include <sys/mman.h>
-#include <unistd.h>
+#define _DEFAULT_SOURCE
+#define TEST "buffers"
 
 #include "phrase.h"
+#include "areas.h"
 #include "files.h"
 
-enum { GUARD = 256, SHOWN_FAILURES = 20, MOST_WORDS = 17000, MOST_TEXT = 40000 };
+enum { MOST_WORDS = 17000, MOST_TEXT = 40000 };
 
-/* What is being tried, for the lines that name a failure. */
-static char trial[256];
-static unsigned long checks, failures;
-
-static void expect(int holds, const char *what)
-{
-    checks++;
-    if (holds)
-        return;
-    failures++;
-    if (failures <= SHOWN_FAILURES)
-        printf("buffers: FAILED: %s: %s\n", trial, what);
-}
-
-static void expect_number(uint64_t found, uint64_t expected, const char *what)
-{
-    char line[128];
-    snprintf(line, sizeof line, "%s is %llu, not %llu", what, (unsigned long long)found, (unsigned long long)expected);
-    expect(found == expected, line);
-}
-
-static void stop(const char *why)
-{
-    fprintf(stderr, "buffers: %s\n", why);
-    exit(2);
-}
-
-/* A call that touches a page that it was not lent ends the test. */
-static void on_fault(int number)
-{
-    static const char head[] = "buffers: FAILED: ", tail[] = ": it touched memory that was not lent, or wrote the file\n";
-    ssize_t ignored = write(STDOUT_FILENO, head, sizeof head - 1);
-    ignored += write(STDOUT_FILENO, trial, strlen(trial));
-    ignored += write(STDOUT_FILENO, tail, sizeof tail - 1);
-    (void)ignored;
-    (void)number;
-    _exit(1);
-}
-
-/* ---- Lent memory ---- */
-
-enum where { AFTER_FAULT, BEFORE_FAULT, BETWEEN, WHERES };
-static const char *const where_names[WHERES] = {"after a page that faults", "before a page that faults", "between guards"};
-
-/* Pages between two that fault, and the part of them that is lent. */
-struct area {
-    uint8_t *first;
-    size_t size;
-    uint8_t *lent;
-    size_t lent_size;
-    uint8_t filling;
-};
-
-static struct area file_area, table_area, text_area;
-
-static struct area map_area(size_t wanted)
-{
-    struct area area;
-    size_t page = (size_t)sysconf(_SC_PAGESIZE);
-    uint8_t *all;
-    memset(&area, 0, sizeof area);
-    area.size = (wanted + 2 * GUARD + page) / page * page;
-    all = mmap(NULL, area.size + 2 * page, PROT_NONE, MAP_PRIVATE | MAP_ANONYMOUS, -1, 0);
-    if (all == MAP_FAILED)
-        stop("mmap failed");
-    area.first = all + page;
-    if (mprotect(area.first, area.size, PROT_READ | PROT_WRITE) != 0)
-        stop("mprotect failed");
-    return area;
-}
-
-/* Neighbours differ, and a place far off holds something else. */
-static uint8_t filler(const struct area *area, const uint8_t *at)
-{
-    size_t offset = (size_t)(at - area->first);
-    return (uint8_t)((offset * 37 + offset / 256 + 11) ^ area->filling);
-}
-
-/* What is filled before a call and compared after it: the lent part and a guard on both sides, as far as the pages reach. */
-static uint8_t *guarded_from(const struct area *area)
-{
-    return area->lent - area->first < GUARD ? area->first : area->lent - GUARD;
-}
-
-static uint8_t *guarded_to(const struct area *area)
-{
-    uint8_t *end = area->lent + area->lent_size;
-    return area->first + area->size - end < GUARD ? area->first + area->size : end + GUARD;
-}
-
-/* Lends `size` bytes; between guards they start `offset` bytes after a page's start. */
-static void lend(struct area *area, size_t size, enum where where, size_t offset, uint8_t filling)
-{
-    uint8_t *at, *to;
-    if (size + 2 * GUARD > area->size)
-        stop("an area is too small for this test");
-    area->lent_size = size;
-    area->filling = filling;
-    area->lent = where == AFTER_FAULT ? area->first : where == BEFORE_FAULT ? area->first + area->size - size : area->first + GUARD + offset;
-    for (at = guarded_from(area), to = guarded_to(area); at < to; at++)
-        *at = filler(area, at);
-}
-
-/* Whether everything from `from` to `to` is as it was lent. */
-static int untouched(const struct area *area, const uint8_t *from, const uint8_t *to)
-{
-    const uint8_t *at;
-    for (at = from; at < to; at++)
-        if (*at != filler(area, at))
-            return 0;
-    return 1;
-}
-
-/* Nothing before the lent part is changed, and nothing from its byte `changed` on, lent or not. */
-static void expect_untouched_from(const struct area *area, size_t changed, const char *before, const char *after)
-{
-    expect(untouched(area, guarded_from(area), area->lent), before);
-    expect(untouched(area, area->lent + changed, guarded_to(area)), after);
-}
-
-static void protect_file(int rights)
-{
-    if (mprotect(file_area.first, file_area.size, rights) != 0)
-        stop("mprotect failed");
-}
+static struct area file_area, table_area, text_area, phrase_area, written_area;
 
 /* ---- One trial ---- */
 
@@ -157,47 +25,31 @@ struct outcome {
     const char *text;
 };
 
-struct setting {
-    enum where where;
-    uint8_t filling;
-};
-
-/* Names the trial; a check has no text. */
-static void describe(const char *call, const struct file *file, const struct outcome *outcome, struct setting setting)
+/* Names the trial; then what else is lent. */
+static void describe(const char *call, const struct file *file, struct setting setting)
 {
-    snprintf(trial, sizeof trial, "%s, %s, %lu words, %s, filling %02X", call, file->name, (unsigned long)outcome->words, where_names[setting.where],
-             (unsigned)setting.filling);
+    snprintf(trial, sizeof trial, "%s, %s, %s, filling %02X", call, file->name, where_names[setting.where], (unsigned)setting.filling);
 }
 
-static void describe_text(size_t size)
+static void describe_room(size_t size, const char *what)
 {
     size_t length = strlen(trial);
-    snprintf(trial + length, sizeof trial - length, ", text of %lu bytes", (unsigned long)size);
+    snprintf(trial + length, sizeof trial - length, ", %lu %s", (unsigned long)size, what);
 }
 
 static void lend_file(const struct file *file, struct setting setting)
 {
-    protect_file(PROT_READ | PROT_WRITE);
-    lend(&file_area, file->size, setting.where, 1, setting.filling);
-    memcpy(file_area.lent, file->bytes, file->size);
-    protect_file(PROT_READ);
+    lend_const(&file_area, file->bytes, file->size, setting, 1);
 }
 
 static void lend_table(const struct outcome *outcome, struct setting setting)
 {
-    lend(&table_area, outcome->words * sizeof(uint32_t), setting.where, sizeof(uint32_t), setting.filling);
+    lend(&table_area, outcome->words * sizeof(uint32_t), setting, sizeof(uint32_t));
 }
 
 static uint32_t *lent_words(void)
 {
     return (uint32_t *)(void *)table_area.lent;
-}
-
-static void expect_answer(uint64_t answer, const struct outcome *outcome)
-{
-    expect_number(answer, outcome->number * UINT64_C(4294967296) + outcome->place, "the answer");
-    expect_number(phrase_refusal(answer), outcome->number, "its number");
-    expect_number(phrase_place(answer), outcome->place, "its place");
 }
 
 static void expect_table(const struct outcome *outcome)
@@ -219,22 +71,24 @@ static void expect_text(size_t length, const struct outcome *outcome)
 static void try_check_with(const struct file *file, const struct outcome *outcome, struct setting setting)
 {
     uint64_t answer;
-    describe("phrase_check_with", file, outcome, setting);
+    describe("phrase_check_with", file, setting);
+    describe_room(outcome->words, "words");
     lend_file(file, setting);
     lend_table(outcome, setting);
     answer = phrase_check_with(file_area.lent, file->size, lent_words(), outcome->words);
-    expect_answer(answer, outcome);
+    expect_answer(answer, outcome->number, outcome->place);
     expect_table(outcome);
 }
 
 static void try_report_with(const struct file *file, const struct outcome *outcome, size_t text_size, struct setting setting)
 {
     size_t length;
-    describe("phrase_report_with", file, outcome, setting);
-    describe_text(text_size);
+    describe("phrase_report_with", file, setting);
+    describe_room(outcome->words, "words");
+    describe_room(text_size, "bytes of text");
     lend_file(file, setting);
     lend_table(outcome, setting);
-    lend(&text_area, text_size, setting.where, 3, setting.filling);
+    lend(&text_area, text_size, setting, 3);
     length = phrase_report_with(file_area.lent, file->size, lent_words(), outcome->words, text_area.lent, text_size);
     expect_text(length, outcome);
     expect_table(outcome);
@@ -242,18 +96,65 @@ static void try_report_with(const struct file *file, const struct outcome *outco
 
 static void try_check(const struct file *file, const struct outcome *outcome, struct setting setting)
 {
-    describe("phrase_check", file, outcome, setting);
+    describe("phrase_check", file, setting);
     lend_file(file, setting);
-    expect_answer(phrase_check(file_area.lent, file->size), outcome);
+    expect_answer(phrase_check(file_area.lent, file->size), outcome->number, outcome->place);
 }
 
 static void try_report(const struct file *file, const struct outcome *outcome, size_t text_size, struct setting setting)
 {
-    describe("phrase_report", file, outcome, setting);
-    describe_text(text_size);
+    describe("phrase_report", file, setting);
+    describe_room(text_size, "bytes of text");
     lend_file(file, setting);
-    lend(&text_area, text_size, setting.where, 3, setting.filling);
+    lend(&text_area, text_size, setting, 3);
     expect_text(phrase_report(file_area.lent, file->size, text_area.lent, text_size), outcome);
+}
+
+/* Reading takes no table: only refusals 1 to 12 concern it. What was read is left in the phrase's area. */
+static void try_read(const struct file *file, const struct outcome *outcome, struct setting setting)
+{
+    int refused = outcome->number >= 1 && outcome->number <= 12;
+    size_t i, zeros = 0;
+    uint64_t answer;
+    describe("phrase_read", file, setting);
+    lend_file(file, setting);
+    lend(&phrase_area, sizeof(struct phrase), setting, sizeof(uint32_t));
+    answer = phrase_read(file_area.lent, file->size, (struct phrase *)(void *)phrase_area.lent);
+    expect_answer(answer, refused ? outcome->number : 0, refused ? outcome->place : 0);
+    for (i = 0; i < sizeof(struct phrase); i++)
+        zeros += phrase_area.lent[i] == 0;
+    if (refused)
+        expect_number(zeros, sizeof(struct phrase), "the number of zero bytes in the phrase");
+    expect_untouched_from(&phrase_area, sizeof(struct phrase), "a byte before the phrase changed", "a byte past the phrase changed");
+}
+
+/* What was read from a file is written as that file; where it was refused, all is zero, version too. */
+static void try_write(const struct file *file, const struct phrase *phrase, size_t size, struct setting setting)
+{
+    uint64_t answer;
+    int fits = size >= file->size;
+    size_t due = phrase->version == 1 && fits ? file->size : 0;
+    describe("phrase_write", file, setting);
+    describe_room(size, "bytes of room");
+    lend_const(&phrase_area, phrase, sizeof *phrase, setting, sizeof(uint32_t));
+    lend(&written_area, size, setting, 3);
+    answer = phrase_write((const struct phrase *)(const void *)phrase_area.lent, written_area.lent, size);
+    expect_answer(answer, phrase->version != 1 ? 1 : fits ? 0 : 16, due);
+    if (due != 0)
+        expect(memcmp(written_area.lent, file->bytes, due) == 0, "the file is another");
+    expect_untouched_from(&written_area, due, "a byte before the file changed", "a byte past the file changed");
+}
+
+static void try_read_and_write(const struct file *file, const struct outcome *outcome, struct setting setting)
+{
+    const size_t sizes[] = {0, 1, file->size - 1, file->size, file->size + 1, file->size + 100, PHRASE_FILE_BYTES};
+    struct phrase phrase;
+    size_t i;
+    try_read(file, outcome, setting);
+    memcpy(&phrase, phrase_area.lent, sizeof phrase);
+    for (i = 0; i < sizeof sizes / sizeof *sizes; i++)
+        if (sizes[i] <= PHRASE_FILE_BYTES + 100) /* the empty file has none of one byte less */
+            try_write(file, &phrase, sizes[i], setting);
 }
 
 /* All calls that can have this outcome; those without a lent table only when it is that of their own. */
@@ -264,8 +165,10 @@ static void try_in(const struct file *file, const struct outcome *outcome, struc
     int own = outcome->words == 16384;
 
     try_check_with(file, outcome, setting);
-    if (own)
+    if (own) {
         try_check(file, outcome, setting);
+        try_read_and_write(file, outcome, setting);
+    }
     for (i = 0; i < sizeof sizes / sizeof *sizes; i++) {
         try_report_with(file, outcome, sizes[i], setting);
         if (own)
@@ -275,15 +178,9 @@ static void try_in(const struct file *file, const struct outcome *outcome, struc
 
 static void try_outcome(const struct file *file, const struct outcome *outcome)
 {
-    struct setting setting;
-    int where;
-    for (where = 0; where < WHERES; where++) {
-        setting.where = (enum where)where;
-        setting.filling = 0x00;
-        try_in(file, outcome, setting);
-        setting.filling = 0xFF;
-        try_in(file, outcome, setting);
-    }
+    int i;
+    for (i = 0; i < SETTINGS; i++)
+        try_in(file, outcome, setting_number(i));
 }
 
 /* ---- What document 01 prints ---- */
@@ -497,23 +394,14 @@ static void try_larger_files(void)
 
 int main(void)
 {
-    struct sigaction action;
-    memset(&action, 0, sizeof action);
-    action.sa_handler = on_fault;
-    if (sigaction(SIGSEGV, &action, NULL) != 0 || sigaction(SIGBUS, &action, NULL) != 0)
-        stop("sigaction failed");
-    setvbuf(stdout, NULL, _IOLBF, 0);
-
+    begin_test();
     file_area = map_area(MOST_FILE);
     table_area = map_area(MOST_WORDS * sizeof(uint32_t));
     text_area = map_area(MOST_TEXT);
+    phrase_area = map_area(sizeof(struct phrase));
+    written_area = map_area(PHRASE_FILE_BYTES + 100);
     try_refusals();
     try_walks();
     try_larger_files();
-
-    if (failures == 0)
-        printf("buffers: %lu checks passed\n", checks);
-    else
-        printf("buffers: %lu of %lu checks failed\n", failures, checks);
-    return failures != 0;
+    return end_test();
 }

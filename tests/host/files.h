@@ -70,6 +70,14 @@ static inline void add_note(struct file *file, unsigned key, unsigned long earli
     add_number(file, due, 4);
 }
 
+/* The note just added waits for so many strokes from `first` on. */
+static inline void add_waits(struct file *file, unsigned first, unsigned count)
+{
+    file->bytes[file->size - 14] = (uint8_t)(13 + count);
+    while (count-- > 0)
+        add_byte(file, first++);
+}
+
 static inline struct file begin(const char *name, unsigned drivers, unsigned bells)
 {
     struct file file;
@@ -107,6 +115,25 @@ static inline struct file crowded(void)
     for (bell = 0; bell < 3; bell++)
         for (note = 0; note < notes[bell]; note++)
             add_note(&file, 60 + bell, 0, 1000, 3600000);
+    finish(&file);
+    return file;
+}
+
+/*
+ * A longest file, 7 + 96 * 7 + 1 + 64 * 14 + 246 = 1822 bytes: 96 bells and 64 notes, each with four waits, but for the first four notes, with 0 to 3, for
+ * want of earlier ones.
+ */
+static inline struct file longest(void)
+{
+    struct file file = begin("a longest file", 8, 96);
+    unsigned i;
+    for (i = 0; i < 96; i++)
+        add_bell(&file, 12 + i, 1, 5000, i);
+    add_byte(&file, 64);
+    for (i = 0; i < 64; i++) {
+        add_note(&file, 107 - i, 0, 0, 3600000);
+        add_waits(&file, i < 4 ? 0 : i - 4, i < 4 ? i : 4);
+    }
     finish(&file);
     return file;
 }

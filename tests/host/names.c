@@ -1,6 +1,7 @@
 /*
- * Provokes every name of host/phrase.h by the calls, and holds it to the number that document 01 gives: each refusal by document 01's example of it, the
- * table's words by a phrase that needs all of them, the text's bytes by a long text. So a header with another number is seen.
+ * Provokes every name of host/phrase.h by the calls, and holds it to the number that document 01 or request 101 gives: each refusal by document 01's example
+ * of it, the table's words by a phrase that needs all of them, the text's bytes by a long text, the limits of a phrase by one that reaches them, and one that
+ * passes them. So a header with another number is seen.
  *
  * Prints one line for each failure and a count; exit status 0 when nothing failed.
  */
@@ -109,6 +110,54 @@ static void try_text_short(void)
     expect(p.name, "the number of P in 141 bytes", report_number(answer, phrase_report(p.bytes, p.size, text, 141)), 0);
 }
 
+/* ---- A file that does not fit ---- */
+
+static void try_file_short(void)
+{
+    struct file p = from_hex("PHRASE_FILE_SHORT", P);
+    struct phrase phrase;
+    uint8_t file[50];
+    uint64_t answer;
+    expect(p.name, "the name", PHRASE_FILE_SHORT, 16);
+    expect(p.name, "the answer to reading P", phrase_read(p.bytes, p.size, &phrase), PHRASE_ACCEPTED);
+    answer = phrase_write(&phrase, file, 49);
+    expect(p.name, "the number of P in 49 bytes", phrase_refusal(answer), PHRASE_FILE_SHORT);
+    expect(p.name, "its place", phrase_place(answer), 0);
+    answer = phrase_write(&phrase, file, 50);
+    expect(p.name, "the number of P in 50 bytes", phrase_refusal(answer), PHRASE_ACCEPTED);
+    expect(p.name, "its length", phrase_place(answer), 50);
+}
+
+/* ---- The limits of a phrase ---- */
+
+/* The number that phrase_write has for a phrase. */
+static uint32_t written_number(const struct phrase *phrase)
+{
+    static uint8_t file[PHRASE_FILE_BYTES];
+    return phrase_refusal(phrase_write(phrase, file, sizeof file));
+}
+
+static void try_limits(void)
+{
+    struct file file = longest();
+    struct phrase most, more;
+    expect(file.name, "the answer to reading it", phrase_read(file.bytes, file.size, &most), PHRASE_ACCEPTED);
+    expect(file.name, "the number of writing it", written_number(&most), PHRASE_ACCEPTED);
+    expect("PHRASE_MOST_BELLS", "the bells", most.bell_count, PHRASE_MOST_BELLS);
+    expect("PHRASE_MOST_NOTES", "the notes", most.note_count, PHRASE_MOST_NOTES);
+    expect("PHRASE_MOST_WAITS", "the waits of the last note", most.notes[63].wait_count, PHRASE_MOST_WAITS);
+    expect("PHRASE_FILE_BYTES", "the name", PHRASE_FILE_BYTES, 1832);
+    more = most;
+    more.bell_count = PHRASE_MOST_BELLS + 1;
+    expect("PHRASE_MOST_BELLS", "the refusal of one more", written_number(&more), PHRASE_BELLS);
+    more = most;
+    more.note_count = PHRASE_MOST_NOTES + 1;
+    expect("PHRASE_MOST_NOTES", "the refusal of one more", written_number(&more), PHRASE_STROKES);
+    more = most;
+    more.notes[63].wait_count = PHRASE_MOST_WAITS + 1;
+    expect("PHRASE_MOST_WAITS", "the refusal of one more", written_number(&more), PHRASE_NOTE_LENGTH);
+}
+
 /* ---- The two lengths ---- */
 
 static uint32_t table[PHRASE_TABLE_WORDS];
@@ -157,6 +206,8 @@ int main(void)
     try_answers();
     try_parts();
     try_text_short();
+    try_file_short();
+    try_limits();
     try_table_words();
     try_text_bytes();
     if (failures == 0)

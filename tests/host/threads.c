@@ -1,7 +1,7 @@
 /*
- * Makes the four calls of host/phrase.h from several threads at the same time, on phrases with different answers, and holds each answer and text to what
- * document 01 says. Buffers are the threads' own; only the files are shared, which the calls only read. The threads have as much stack as phrase.h says that
- * every call can do with.
+ * Makes the six calls of host/phrase.h from several threads at the same time, on phrases with different answers, and holds each answer, text and file to what
+ * document 01 and request 101 say. Buffers are the threads' own; only the files are shared, which the calls only read. The threads have as much stack as
+ * phrase.h says that every call can do with.
  *
  * Prints one line for each thread that saw a difference, else a count; exit status 0 when there was none.
  */
@@ -13,7 +13,7 @@
 
 #include "phrase.h"
 
-enum { THREADS = 8, ROUNDS = 400, WORDS = 64, ROOM = 200, STACK = 128 * 1024 };
+enum { THREADS = 8, ROUNDS = 400, CALLS = 6, WORDS = 64, ROOM = 200, STACK = 128 * 1024 };
 
 struct example {
     const char *name;
@@ -44,12 +44,30 @@ enum { EXAMPLES = sizeof examples / sizeof *examples };
 struct player {
     pthread_t thread;
     const struct example *example;
+    struct phrase phrase;
     unsigned differences;
 };
 
 static int is_text(const struct example *example, const uint8_t *text, size_t length)
 {
     return length == strlen(example->text) && memcmp(text, example->text, length) == 0;
+}
+
+/* What document 01 says of reading: refusals 1 to 12. */
+static uint64_t reading(const struct example *example)
+{
+    return phrase_refusal(example->answer) <= PHRASE_WAITS ? example->answer : 0;
+}
+
+/* The phrase is written as the file that it was read from. Where that was refused, all is zero, which is refused with 1 at 0. */
+static int is_written(const struct player *player)
+{
+    const struct example *example = player->example;
+    uint8_t file[ROOM];
+    uint64_t answer = phrase_write(&player->phrase, file, ROOM);
+    if (reading(example) != 0)
+        return answer == UINT64_C(1) << 32;
+    return answer == example->size && memcmp(file, example->file, example->size) == 0;
 }
 
 static void *play(void *argument)
@@ -68,6 +86,9 @@ static void *play(void *argument)
         player->differences += !is_text(example, text, phrase_report(example->file, example->size, text, ROOM));
         memset(text, 0, sizeof text);
         player->differences += !is_text(example, text, phrase_report_with(example->file, example->size, table, WORDS, text, ROOM));
+        memset(&player->phrase, 0xA5, sizeof player->phrase);
+        player->differences += phrase_read(example->file, example->size, &player->phrase) != reading(example);
+        player->differences += !is_written(player);
     }
     return NULL;
 }
@@ -91,11 +112,11 @@ int main(void)
     for (i = 0; i < THREADS; i++) {
         pthread_join(players[i].thread, NULL);
         if (players[i].differences != 0) {
-            printf("threads: FAILED: %s: %u of %d calls differed\n", players[i].example->name, players[i].differences, 4 * ROUNDS);
+            printf("threads: FAILED: %s: %u of %d calls differed\n", players[i].example->name, players[i].differences, CALLS * ROUNDS);
             failed = 1;
         }
     }
     if (!failed)
-        printf("threads: %d checks passed\n", THREADS * ROUNDS * 4);
+        printf("threads: %d checks passed\n", THREADS * ROUNDS * CALLS);
     return failed;
 }

@@ -12,7 +12,8 @@ use Rattle.format.specs.Jobs.{jobsOf}
 use Rattle.format.specs.Valid.{Valid}
 use Rattle.format.specs.internal.Analysable.{Analysable}
 use Rattle.format.proofs.Jobs.{analysable}
-use Rattle.rows.specs.internal.PhraseTable.{coresWord, noteCountWord, phraseTable, phraseOf, HandedOn}
+use Rattle.rows.specs.PhraseTable.{coresWord, noteCountWord, phraseTable, phraseOf}
+use Rattle.rows.specs.internal.Handed.{HandedOn}
 use Rattle.rows.proofs.PhraseTable.{few-notes, header-word, phrase-of}
 use Rattle.jobs.specs.internal.JobRow.{jobsOfRows, Setting}
 use Rattle.jobs.specs.internal.JobTable.{jobTable}

@@ -1,3 +1,2 @@
 -- Laws of the fields of records.
-pub mod BellFields
 pub mod ListedJobs

@@ -1,2 +1,3 @@
 -- Vocabulary of internal contracts: no public contract cites it.
+pub mod BellWith
 pub mod NoteRecord

@@ -2,7 +2,7 @@
 ghost use mathlib.Core.Path.{_≡_};
 ghost use Prim.Native.Nat.{_+_, _≤_, _<_};
 ghost use lib.ListN.{length};
-ghost use Rattle.format.specs.Bytes.{number, within};
+ghost use Rattle.format.specs.Bytes.{number};
 
 // One byte, as a word.
 pub fn byte(part: &[u8], at: usize) -> u32
@@ -28,10 +28,4 @@ pub fn be_32(part: &[u8], at: usize) -> u32
     let high = be_16(part, at);
     let low = be_16(part, at + 2);
     high * 65536 + low
-}
-
-pub fn is_within(low: u32, high: u32, x: u32) -> bool
-    ensures { λ r. ⌜ r ≡ within low high x ⌝ }
-{
-    low <= x && x <= high
 }

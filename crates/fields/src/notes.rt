@@ -3,13 +3,12 @@ ghost use mathlib.Core.Path.{_≡_};
 ghost use Prim.Native.Nat.{_+_, _≤_, _<_};
 ghost use lib.ListN.{length, getD};
 ghost use Rattle.format.specs.Layout.{first, mostListed, isNoteLength};
-ghost use Rattle.format.specs.Rules.{areTimes, rises};
+ghost use Rattle.format.specs.Rules.{rises};
 ghost use Rattle.format.specs.Reading.{noteIn};
-ghost use Rattle.rows.specs.internal.NoteRow.{noteWords, noteRowOn};
+ghost use Rattle.rows.specs.NoteRow.{noteWords, noteRowOn};
 ghost use Rattle.fields.specs.internal.NoteRecord.{WholeNote};
 use crate::bytes::be_32;
 use crate::bytes::byte;
-use crate::bytes::is_within;
 use crate::layout::DEADLINE_AT;
 use crate::layout::EARLIEST_RELEASE_AT;
 use crate::layout::KEY_AT;
@@ -18,7 +17,7 @@ use crate::layout::LENGTH_AT;
 use crate::layout::LISTED_AT;
 use crate::layout::MOST_LISTED;
 use crate::layout::NOTE_BYTES;
-use model::limits::LATEST_TIME;
+use crate::rules::is_within;
 use rows::note::DEADLINE;
 use rows::note::EARLIEST_RELEASE;
 use rows::note::KEY;
@@ -26,19 +25,6 @@ use rows::note::LATEST_RELEASE;
 use rows::note::LISTED;
 use rows::note::LISTED_COUNT;
 use rows::note::STRUCK;
-
-// The deadline is free against the releases.
-pub fn are_times(earliest: u32, latest: u32, deadline: u32) -> bool
-    ensures { λ r. ⌜ r ≡ areTimes earliest latest deadline ⌝ }
-{
-    if latest < earliest {
-        return false;
-    }
-    if LATEST_TIME < latest {
-        return false;
-    }
-    deadline <= LATEST_TIME
-}
 
 // Whether a note's length byte is that of a note that lists at most four jobs.
 pub fn is_note_length(size: u32) -> bool

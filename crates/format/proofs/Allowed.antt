@@ -17,7 +17,8 @@ use Rattle.format.proofs.Passed.{within-true, true-within, is-none, req
 use Rattle.format.proofs.Given.{bell-passed, note-passed}
 
 module _ (l : Layout) where
-  bells-passed : (rest : List Bell) (at : ℕ) (before bells : List Bell) → bellsRules l rest at before ≡ ok bells
+  -- Bells that pass are valid, and stand after those before.
+  pub bells-passed : (rest : List Bell) (at : ℕ) (before bells : List Bell) → bellsRules l rest at before ≡ ok bells
       → Each ValidBell before rest × (before ++ rest ≡ bells)
   unfolding bellsRules Each
   bells-passed [] at before bells e = (tt, append-nil before ∙ cc e)

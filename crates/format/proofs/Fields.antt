@@ -7,15 +7,27 @@ use native.Mathlib.Nat.{suc-mul}
 use lib.ListN.{length, take, drop, replicate, length-append}
 use lib.Seq.{take-add, drop-drop}
 use Rattle.format.specs.Bytes.{AreBytes, number, digits, total, fieldsIn, fieldsFile}
-use Rattle.format.specs.internal.Fits.{FieldsFit}
+use Rattle.format.specs.Fits.{FieldsFit}
 use Rattle.format.proofs.Digits.{digits-length, number-small, number-digits, digits-number}
 
--- Fields that fit their widths are written in as many bytes as the widths add up to.
-pub fields-length : (ws vs : List ℕ) → FieldsFit ws vs → length (fieldsFile ws vs) ≡ total ws
+-- As many fields as there are widths take as many bytes as the widths add up to.
+pub fields-size : (ws vs : List ℕ) → length ws ≡ length vs → length (fieldsFile ws vs) ≡ total ws
 unfolding fieldsFile total
-fields-length [] vs f = refl
-fields-length (w ∷ ws) [] f = absurd f
-fields-length (w ∷ ws) (v ∷ vs) f = omega (arith, length-append (digits w v) (fieldsFile ws vs), digits-length w v, fields-length ws vs (f .1))
+fields-size [] vs e = refl
+fields-size (w ∷ ws) [] e = absurd (omega arith)
+fields-size (w ∷ ws) (v ∷ vs) e =
+    let rest : length ws ≡ length vs = omega arith in
+    omega (arith, length-append (digits w v) (fieldsFile ws vs), digits-length w v, fields-size ws vs rest)
+
+as-many : (ws vs : List ℕ) → FieldsFit ws vs → length ws ≡ length vs
+as-many [] [] f = refl
+as-many [] (v ∷ vs) f = absurd f
+as-many (w ∷ ws) [] f = absurd f
+as-many (w ∷ ws) (v ∷ vs) f = ap suc (as-many ws vs (f .1))
+
+-- So do fields that fit their widths.
+pub fields-length : (ws vs : List ℕ) → FieldsFit ws vs → length (fieldsFile ws vs) ≡ total ws
+fields-length ws vs f = fields-size ws vs (as-many ws vs f)
 
 -- Fields that fit their widths are read back where they were written.
 pub fields-back : (ws vs : List ℕ) → FieldsFit ws vs → (before more : List ℕ) (at : ℕ) → length before ≡ at

@@ -9,7 +9,7 @@ use lib.Dec.{leb, eqb}
 use lib.ListN.{length, getD, replicate, length-replicate}
 use borrow.Author.Tests.{leb-true, leb-false, le-leb, lt-leb, eq-eqb, ne-eqb}
 use Rattle.format.specs.Bytes.{byteAt, number, within, fieldsIn}
-use Rattle.format.specs.Layout.{first, noteBytes, mostListed, noteLength, listedCount, isNoteLength, mostBytes}
+use Rattle.format.specs.Layout.{isVersion, first, noteBytes, mostListed, noteLength, listedCount, isNoteLength, mostBytes}
 use Rattle.format.specs.Reading.{bellIn, listedBy, noteIn}
 use Rattle.format.proofs.Digits.{number-one}
 use Rattle.format.proofs.Fields.{fields-count}
@@ -32,11 +32,6 @@ single-length k at p = fields-count (replicate k 1) at p ∙ length-replicate k 
 -- ---- a bell
 
 module _ (p : List ℕ) where
-  -- The priority is the byte at place 6.
-  pub bell-priority : bellIn first p .priority ≡ byteAt p 6
-  unfolding bellIn fieldsIn
-  bell-priority = number-one 6 p
-
   -- The bell of a record, all fields at once.
   pub bell-bytes : bellIn first p ≡ record { written = byteAt p 0; transposition = byteAt p 1; leastExecution = number 2 2 p; mostExecution = number 2 4 p; priority = byteAt p 6 }
   unfolding bellIn fieldsIn
@@ -109,6 +104,20 @@ note-length n = go ((n - noteBytes) / 1) (omega arith) (leb noteBytes n) refl (l
     go k e true q false r =
         let high = leb-false n (noteBytes + mostListed) r in
         simp (lt-leb k mostListed (omega arith), q, r)
+
+-- ---- the version
+
+-- Version 1 is a version.
+pub is-version : (v : ℕ) → v ≡ 1 → isVersion v ≡ true
+unfolding isVersion within
+is-version v e = ap isVersion e
+
+-- No other number is one.
+pub no-version : (v : ℕ) → (v ≡ 1 → ⊥) → isVersion v ≡ false
+unfolding isVersion within
+no-version zero h = refl
+no-version (suc zero) h = absurd (h refl)
+no-version (suc (suc v)) h = simp (le-leb 1 (suc (suc v)) (omega arith), lt-leb (suc (suc v)) 1 (omega arith))
 
 -- ---- the longest file
 

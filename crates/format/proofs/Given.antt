@@ -15,7 +15,7 @@ use Rattle.format.specs.Phrase.{Bell, Note, sounding, find, isNone, isSo
 use Rattle.format.specs.Rules.{bellInRange, bellRules, areTimes, rises, noteRules}
 use Rattle.format.specs.Reading.{bellIn, bellRecord, listedBy, noteIn, noteRecord}
 use Rattle.format.specs.Writing.{bellFields, bellFile, noteFile}
-use Rattle.format.specs.internal.Fits.{FieldsFit}
+use Rattle.format.specs.Fits.{FieldsFit}
 use Rattle.format.proofs.Passed.{required}
 use Rattle.format.proofs.Fields.{fields-fit, fields-file, fields-count}
 use Rattle.format.proofs.Layouts.{bell-total, note-total, length-is}

@@ -11,7 +11,7 @@ use borrow.Author.Tests.{leb-true, ltb-true, eqb-true, eq-eqb}
 use Rattle.model.proofs.Booleans.{and-left, and-right}
 use Rattle.format.specs.Bytes.{total}
 use Rattle.format.specs.Layout.{Layout, first, versions, layout, bellsAt, bellBytes, noteCountAt, mostBells, noteBytes, mostListed, noteLength, listedCount, isNoteLength, mostBytes, headWidths, bellWidths, noteWidths}
-use Rattle.format.specs.internal.Fits.{Sized}
+use Rattle.format.specs.internal.Sized.{Sized}
 use Rattle.format.proofs.Fields.{total-same}
 
 -- ---- one computed test of the whole table

@@ -4,6 +4,7 @@ pub mod Digits
 pub mod Fields
 pub mod First
 pub mod Layouts
+pub mod Sizes
 pub mod Records
 pub mod Written
 pub mod Given

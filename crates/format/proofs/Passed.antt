@@ -41,6 +41,11 @@ module _ {A : Type 0} {x : A} where
   bound (ok b) e = (b, refl, e)
   bound (refused n at) e = absurd (never n at e)
 
+  -- The same, where what follows does not depend on it.
+  pub followed : {B : Type 0} (o : Outcome B) {k : Outcome A} → _>>_ o k ≡ ok x → (b : B) × (o ≡ ok b) × (k ≡ ok x)
+  followed (ok b) e = (b, refl, e)
+  followed (refused n at) e = absurd (never n at e)
+
 module _ {A : Type 0} where
   -- Equal steps after one outcome are equal.
   pub same-then : {B : Type 0} (o : Outcome B) (f g : B → Outcome A) → ((b : B) → f b ≡ g b) → _>>=_ o f ≡ _>>=_ o g

@@ -18,12 +18,13 @@ use Rattle.format.specs.Phrase.{Bell, Note, Phrase, sounding, findFrom, 
 use Rattle.format.specs.Rules.{lowestKey, highestKey, isTransposition, isExecutionRange, bellInRange, areTimes, rises}
 use Rattle.format.specs.Valid.{Each, ValidBell, ValidNote, ValidBy, Valid}
 use Rattle.format.specs.Writing.{bellFile, noteFile, body}
-use Rattle.format.specs.internal.Fits.{FieldsFit, All, Sized, FitsBy, Fits}
+use Rattle.format.specs.Fits.{FieldsFit, All, FitsBy, Fits}
+use Rattle.format.specs.internal.Sized.{Sized}
 use Rattle.format.proofs.Passed.{within-true}
 use Rattle.format.proofs.Digits.{digits-length}
 use Rattle.format.proofs.Layouts.{sized, lengths, notes-within, length-small, bytes-small}
-use Rattle.format.proofs.Records.{BellFits, NoteFits, note-length}
-use Rattle.format.proofs.Written.{bells-length}
+use Rattle.format.proofs.Records.{BellFits, NoteFits}
+use Rattle.format.proofs.Sizes.{note-size, bells-size}
 
 -- ---- a bell
 
@@ -44,7 +45,8 @@ transposes t e = go (or-cases (leb t 24) (within 232 255 t) e)
     go (inl q) = inl (leb-true t 24 q)
     go (inr q) = inr (within-true 232 255 t q)
 
-transposition-small : (t : ℕ) → isTransposition t ≡ true → t < 256
+-- A transposition is a byte.
+pub transposition-small : (t : ℕ) → isTransposition t ≡ true → t < 256
 transposition-small t e = go (transposes t e)
   where
     go : (t ≤ 24) ⊎ ((232 ≤ t) × (t ≤ 255)) → t < 256
@@ -140,7 +142,7 @@ module _ (l : Layout) (bells : List Bell) where
       omega (
         arith,
         length-append (noteFile l n) (records (noteFile l) ns),
-        note-length l n (f .0),
+        note-size l n,
         lengths l (length (n .listed)) (r .0 .few),
         notes-length (before ++ n ∷ []) ns (r .1) (f .1),
         suc-mul (length ns) (1 + noteLength l mostListed),
@@ -171,7 +173,7 @@ module _ (l : Layout) (z : Sized l) (x : Phrase) (v : ValidBy l x) where
         length-append (records (bellFile l) (x .bells)) (one ++ two),
         length-append one two,
         digits-length (l .countBytes) k,
-        bells-length l (x .bells) bells-ok,
+        bells-size l (x .bells),
         notes-length l (x .bells) [] (x .notes) (v .notes) notes-ok,
         notes-within l (length (x .bells)) k (v .bellCount .1) (v .noteCount),
       )

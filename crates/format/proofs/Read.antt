@@ -18,7 +18,7 @@ use Rattle.format.specs.Outcome.{ok}
 use Rattle.format.specs.Phrase.{Bell, Note, Phrase}
 use Rattle.format.specs.Reading.{bellRecord, noteRecord, bellsFrom, notesFrom, bellsIn, notesIn, readingBy, reading}
 use Rattle.format.specs.Writing.{bellFile, noteFile, body, headFields, writtenBy, written}
-use Rattle.format.specs.internal.Fits.{FieldsFit, All, FitsBy, Fits}
+use Rattle.format.specs.Fits.{FieldsFit, All, FitsBy, Fits}
 use Rattle.format.proofs.Passed.{required, bound}
 use Rattle.format.proofs.Digits.{number-small, digits-number, number-drop}
 use Rattle.format.proofs.Fields.{fields-fit, fields-file}

@@ -14,10 +14,12 @@ use Rattle.format.specs.Phrase.{Bell, Note}
 use Rattle.format.specs.Rules.{bellRules, noteRules}
 use Rattle.format.specs.Reading.{bellOf, bellIn, bellRecord, noteOf, listedBy, noteIn, noteRecord}
 use Rattle.format.specs.Writing.{bellFields, bellFile, noteFields, noteFile}
-use Rattle.format.specs.internal.Fits.{FieldsFit, Sized}
+use Rattle.format.specs.Fits.{FieldsFit}
+use Rattle.format.specs.internal.Sized.{Sized}
 use Rattle.format.proofs.Passed.{same-require, passed}
-use Rattle.format.proofs.Fields.{fields-length, fields-back}
-use Rattle.format.proofs.Layouts.{bell-total, note-total, listed-count, note-lengths}
+use Rattle.format.proofs.Fields.{fields-back}
+use Rattle.format.proofs.Layouts.{listed-count, note-lengths}
+use Rattle.format.proofs.Sizes.{bell-size, note-size}
 
 -- the fields of a bell fit their widths
 abbrev pub BellFits : Layout → Bell → Type 0
@@ -34,11 +36,6 @@ module _ (l : Layout) where
   bell-fields p = refl
 
   module _ (b : Bell) (f : BellFits l b) where
-    -- The record of a bell has the bytes that the layout says.
-    pub bell-length : length (bellFile l b) ≡ bellBytes l
-    unfolding bellFile
-    bell-length = fields-length (bellWidths l) (bellFields b) f ∙ bell-total l
-
     bell-same : (more : List ℕ) → bellIn l (bellFile l b ++ more) ≡ b
     unfolding bellFile bellIn
     bell-same more = ap bellOf (fields-back (bellWidths l) (bellFields b) f [] more 0 refl)
@@ -48,7 +45,7 @@ module _ (l : Layout) where
     unfolding bellRecord
     bell-back before at more =
         let p : List ℕ = bellFile l b ++ more in
-        let long : bellBytes l ≤ length p = omega (arith, bell-length, length-append (bellFile l b) more) in
+        let long : bellBytes l ≤ length p = omega (arith, bell-size l b, length-append (bellFile l b) more) in
         passed (leb (bellBytes l) (length p)) wrongEnd at (bellRules before at (bellIn l p)) (le-leb (bellBytes l) (length p) long)
         ∙ ap (bellRules before at) (bell-same more)
 
@@ -61,11 +58,6 @@ module _ (l : Layout) where
   first-field k p = refl
 
   module _ (n : Note) (f : NoteFits l n) where
-    -- The record of a note has its length byte, and the bytes that this counts.
-    pub note-length : length (noteFile l n) ≡ 1 + noteLength l (length (n .listed))
-    unfolding noteFile
-    note-length = fields-length (noteWidths l (length (n .listed))) (noteFields l n) f ∙ note-total l (length (n .listed))
-
     module _ (more : List ℕ) where
       note-fields : fieldsIn (noteWidths l (length (n .listed))) 0 (noteFile l n ++ more) ≡ noteFields l n
       unfolding noteFile
@@ -87,8 +79,8 @@ module _ (l : Layout) where
         unfolding noteRecord
         note-back bells own at =
             let p : List ℕ = noteFile l n ++ more in
-            let some : 1 ≤ length p = omega (arith, note-length, length-append (noteFile l n) more) in
-            let long : number 1 0 p < length p = omega (arith, note-length, note-first, length-append (noteFile l n) more) in
+            let some : 1 ≤ length p = omega (arith, note-size l n, length-append (noteFile l n) more) in
+            let long : number 1 0 p < length p = omega (arith, note-size l n, note-first, length-append (noteFile l n) more) in
             let last : Outcome Note = noteRules bells own at (noteIn l p) in
             let two : Outcome Note = _>>_ (require (ltb (number 1 0 p) (length p)) wrongEnd at) last in
             passed (leb 1 (length p)) wrongEnd at (_>>_ (require (isNoteLength l (number 1 0 p)) wrongNoteLength at) two) (le-leb 1 (length p) some)

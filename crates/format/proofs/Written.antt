@@ -18,21 +18,16 @@ use Rattle.format.specs.Phrase.{Bell, Note, Phrase}
 use Rattle.format.specs.Rules.{bellRules, noteRules, bellsRules, notesRules, allBells, allNotes, rulesBy, rules}
 use Rattle.format.specs.Reading.{bellRecord, noteRecord, bellsFrom, notesFrom, bellsIn, notesIn, readingBy, reading}
 use Rattle.format.specs.Writing.{bellFile, noteFile, body, headFields, writtenBy, written}
-use Rattle.format.specs.internal.Fits.{All, Sized, FitsBy, Fits}
+use Rattle.format.specs.Fits.{All, FitsBy, Fits}
+use Rattle.format.specs.internal.Sized.{Sized}
 use Rattle.format.proofs.Passed.{same-then, passed}
 use Rattle.format.proofs.Digits.{digits-length, number-digits, number-drop}
-use Rattle.format.proofs.Fields.{fields-length, fields-back}
+use Rattle.format.proofs.Fields.{fields-size, fields-back}
 use Rattle.format.proofs.Layouts.{sized, head-total}
-use Rattle.format.proofs.Records.{BellFits, NoteFits, bell-length, bell-back, note-length, note-first, note-back}
+use Rattle.format.proofs.Records.{BellFits, NoteFits, bell-back, note-first, note-back}
+use Rattle.format.proofs.Sizes.{bell-size, note-size, bells-size}
 
 module _ (l : Layout) where
-  -- The records of bells have so many times the bytes of one.
-  pub bells-length : (bells : List Bell) → All (BellFits l) bells → length (records (bellFile l) bells) ≡ length bells * bellBytes l
-  unfolding records All
-  bells-length [] f = omega arith
-  bells-length (b ∷ bs) f =
-      omega (arith, length-append (bellFile l b) (records (bellFile l) bs), bell-length l b (f .0), bells-length bs (f .1), suc-mul (length bs) (bellBytes l))
-
   -- ---- the loops: what is written from a place on is read on from there
 
   bells-back : (rest : List Bell) → All (BellFits l) rest → (before more : List ℕ) (at : ℕ) → length before ≡ at → (bells : List Bell)
@@ -45,7 +40,7 @@ module _ (l : Layout) where
       let split : s ≡ before ++ bellFile l b ++ tail = ap (λ (r : List ℕ). before ++ r) (append-assoc (bellFile l b) _ _) ∙ sym (append-assoc before (bellFile l b) tail) in
       let here : drop at s ≡ bellFile l b ++ tail = drop-at before _ at e ∙ append-assoc (bellFile l b) _ _ in
       let this : bellRecord l bells at (drop at s) ≡ bellRules bells at b = ap (bellRecord l bells at) here ∙ bell-back l b (f .0) bells at tail in
-      let next : length (before ++ bellFile l b) ≡ at + bellBytes l = omega (arith, length-append before (bellFile l b), bell-length l b (f .0)) in
+      let next : length (before ++ bellFile l b) ≡ at + bellBytes l = omega (arith, length-append before (bellFile l b), bell-size l b) in
       ap (λ (o : Outcome Bell). _>>=_ o (λ c. bellsFrom l s (length bs) (at + bellBytes l) (bells ++ c ∷ []))) this
       ∙ same-then (bellRules bells at b) _ _
       (λ c. ap (λ (t : List ℕ). bellsFrom l t (length bs) (at + bellBytes l) (bells ++ c ∷ [])) split
@@ -69,7 +64,7 @@ module _ (l : Layout) where
         ap (noteRecord l bells own at) here ∙ note-back l n (f .0) tail z bells own at in
         let size : number 1 at s ≡ noteLength l (length (n .listed)) = sym (number-drop 1 at s) ∙ ap (number 1 0) here ∙ note-first l n (f .0) tail in
         let to : ℕ = at + (1 + noteLength l (length (n .listed))) in
-        let next : length (before ++ noteFile l n) ≡ to = omega (arith, length-append before (noteFile l n), note-length l n (f .0)) in
+        let next : length (before ++ noteFile l n) ≡ to = omega (arith, length-append before (noteFile l n), note-size l n) in
         let on : Note → Outcome (List Note) = λ c. notesFrom l s bells (length ns) to (notes ++ c ∷ []) in
         ap (λ (k : ℕ). _>>=_ (noteRecord l bells own at (drop at s)) (λ c. notesFrom l s bells (length ns) (at + (1 + k)) (notes ++ c ∷ []))) size
         ∙ ap (λ (o : Outcome Note). _>>=_ o on) this
@@ -99,7 +94,7 @@ module _ (l : Layout) (z : Sized l) (x : Phrase) (f : FitsBy l x) where
 
   head-length : length head ≡ bellsAt l
   unfolding head
-  head-length = fields-length (headWidths l) (headFields l x) (f .head) ∙ head-total l
+  head-length = fields-size (headWidths l) (headFields l x) refl ∙ head-total l
 
   parted : file ≡ head ++ (records (bellFile l) (x .bells) ++ after)
   unfolding file head after writtenBy body
@@ -107,7 +102,7 @@ module _ (l : Layout) (z : Sized l) (x : Phrase) (f : FitsBy l x) where
 
   body-length : length (body l x) ≡ length (x .bells) * bellBytes l + length after
   unfolding body after
-  body-length = omega (arith, length-append (records (bellFile l) (x .bells)) after, bells-length l (x .bells) (f .bells))
+  body-length = omega (arith, length-append (records (bellFile l) (x .bells)) after, bells-size l (x .bells))
 
   after-length : l .countBytes ≤ length after
   unfolding after
@@ -162,7 +157,7 @@ module _ (l : Layout) (z : Sized l) (x : Phrase) (f : FitsBy l x) where
       let at : ℕ = noteCountAt l (length (x .bells)) in
       let front : List ℕ = head ++ records (bellFile l) (x .bells) in
       let notes : List ℕ = records (noteFile l) (x .notes) in
-      let size : length front ≡ at = omega (arith, length-append head (records (bellFile l) (x .bells)), head-length, bells-length l (x .bells) (f .bells)) in
+      let size : length front ≡ at = omega (arith, length-append head (records (bellFile l) (x .bells)), head-length, bells-size l (x .bells)) in
       let one : file ≡ front ++ (digits w k ++ notes) = parted ∙ sym (append-assoc head _ _) in
       let two : file ≡ front ++ digits w k ++ notes = one ∙ sym (append-assoc front (digits w k) notes) in
       let count : number w at file ≡ k = ap (number w at) one ∙ number-digits w k (f .count) front notes at size in

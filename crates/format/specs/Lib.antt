@@ -8,5 +8,6 @@ pub mod Reading
 pub mod Jobs
 pub mod Valid
 pub mod Writing
+pub mod Fits
 pub mod examples
 pub mod internal

@@ -28,9 +28,13 @@ pub record Phrase : Type 0 where
   pub bells : List Bell
   pub notes : List Note
 
--- The key that a bell sounds for: N + T. (A sum below zero is 0 here, which is no key of a bell.)
+-- A key and a transposition as a signed byte: N + T. (A sum below zero is 0 here, which is no key of a bell.)
+abbrev pub transposed : ℕ → ℕ → ℕ
+transposed written t = cond (ltb t 128) (written + t) (written + t - 256)
+
+-- The key that a bell sounds for.
 unfoldable pub sounding : Bell → ℕ
-sounding b = cond (ltb (b .transposition) 128) (b .written + b .transposition) (b .written + b .transposition - 256)
+sounding b = transposed (b .written) (b .transposition)
 
 -- the number, counted on from i, of the first bell that sounds for a key
 unfoldable pub findFrom : ℕ → ℕ → List Bell → Option ℕ

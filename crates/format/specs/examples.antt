@@ -1,6 +1,7 @@
--- Worked examples of the definitions: document 01's phrase P and its refusals, phrases wider than their bytes, jobs, lengths, and what is valid.
+-- Worked examples of the definitions: document 01's phrase P and its refusals, phrases wider than their bytes, jobs, lengths, what is valid, and what fits its bytes.
 pub mod Files
 pub mod Phrases
 pub mod Jobs
 pub mod Lengths
 pub mod Valid
+pub mod Fitting

@@ -1,3 +1,3 @@
 -- Vocabulary of internal contracts and of proofs: no public contract cites it.
 pub mod Analysable
-pub mod Fits
+pub mod Sized

@@ -18,7 +18,7 @@ use Rattle.words.proofs.Tabulate.{length-tabulate, getD-tabulate, tabulate-is}
 use Rattle.words.proofs.Padded.{padded-length}
 use Rattle.format.specs.Phrase.{Phrase}
 use Rattle.format.specs.Jobs.{jobOf, jobsOf}
-use Rattle.format.specs.internal.Fits.{All}
+use Rattle.format.specs.Fits.{All}
 use Rattle.format.specs.internal.Analysable.{mostPredecessors, Analysable}
 use Rattle.rows.proofs.Records.{Wide, records-length, records-word}
 use Rattle.jobs.specs.internal.JobRow.{rowWords, besideWords, earliestReleaseAt, latestReleaseAt, leastExecutionAt, mostExecutionAt, deadlineAt, priorityAt, predecessorCountAt, predecessorsAt, jobBellAt, jobListedAt, jobRow, jobRows, word, jobAt, jobsOfRows, Rows, Setting}

@@ -22,9 +22,10 @@ use Rattle.format.specs.Layout.{mostBells, mostListed}
 use Rattle.format.specs.Phrase.{Bell, Note}
 use Rattle.format.specs.Jobs.{noBell, noNote, note, struck, jobOf, jobsOf}
 use Rattle.format.specs.internal.Analysable.{mostPredecessors}
-use Rattle.rows.specs.internal.BellRow.{bellWords, leastExecutionWord, mostExecutionWord, priorityWord, bellRow}
-use Rattle.rows.specs.internal.NoteRow.{noteWords, earliestReleaseWord, latestReleaseWord, deadlineWord, listedCountWord, listedWord, struckWord, noteRowOn, noteRow}
-use Rattle.rows.specs.internal.PhraseTable.{noteCountWord, bellRowsAt, noteRowsAt, phraseOf, HandedOn}
+use Rattle.rows.specs.BellRow.{bellWords, leastExecutionWord, mostExecutionWord, priorityWord, bellRow}
+use Rattle.rows.specs.NoteRow.{noteWords, earliestReleaseWord, latestReleaseWord, deadlineWord, listedCountWord, listedWord, struckWord, noteRowOn, noteRow}
+use Rattle.rows.specs.PhraseTable.{noteCountWord, bellRowsAt, noteRowsAt, phraseOf}
+use Rattle.rows.specs.internal.Handed.{HandedOn}
 use Rattle.rows.proofs.Records.{records-snoc}
 use Rattle.rows.proofs.PhraseTable.{few-bells, few-notes, few-listed, struck-below, header-word, bell-word, note-word, phrase-of}
 use Rattle.jobs.specs.internal.JobRow.{rowWords, earliestReleaseAt, predecessorCountAt, besideAt, jobRow, jobRows}

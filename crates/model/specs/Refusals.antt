@@ -59,3 +59,9 @@ lateJob = 14
 -- the buffer is shorter than the text
 abbrev pub shortBuffer : ℕ
 shortBuffer = 15
+
+-- ---- of writing
+
+-- the buffer is shorter than the file
+abbrev pub shortFile : ℕ
+shortFile = 16

@@ -28,3 +28,5 @@ pub const LEVEL_FULL: u32 = 13;
 pub const LATE_JOB: u32 = 14;
 
 pub const SHORT_BUFFER: u32 = 15;
+
+pub const SHORT_FILE: u32 = 16;

@@ -1,3 +1,4 @@
 -- What the number that a host gets says.
 pub mod Numbers
 pub mod Example
+pub mod Rereading

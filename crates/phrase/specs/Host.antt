@@ -1,7 +1,9 @@
--- What a host gets: one number for a check. Assumes nothing.
+-- What a host gets: one number for a check, for a reading and for a writing. Assumes nothing.
 use Prim.Native.Nat.{ℕ, _+_, _*_}
+use mathlib.Core.List.{List}
+use lib.ListN.{length}
 use Rattle.format.specs.Phrase.{Phrase}
-use Rattle.format.specs.Outcome.{Outcome}
+use Rattle.format.specs.Outcome.{Outcome, ok, refused}
 use Rattle.checking.specs.Checking.{verdict, answerFor, Values, valuesOf}
 
 -- the words of a table of its own
@@ -12,10 +14,24 @@ tableWords = 16384
 abbrev pub places : ℕ
 places = 4294967296
 
--- The refusal number times `places` plus the place, which is the level of refusal 13 and the job of refusal 14; 0 when accepted.
+-- The refusal number times `places` plus the place.
+abbrev pub refusalAt : ℕ → ℕ → ℕ
+refusalAt number place = number * places + place
+
+-- Of a check; the place is the level of refusal 13 and the job of refusal 14; 0 when accepted.
 abbrev pub numberOf : Values → ℕ
-numberOf w = w .number * places + w .place
+numberOf w = refusalAt (w .number) (w .place)
 
 -- the number for a reading and a table of so many words
 abbrev pub numberFor : Outcome Phrase → ℕ → ℕ
 numberFor o words = numberOf (valuesOf (answerFor (verdict o words)))
+
+-- Of a reading: 0, or its refusal.
+abbrev pub readNumber : Outcome Phrase → ℕ
+readNumber (ok x) = 0
+readNumber (refused n at) = refusalAt n at
+
+-- Of a writing: the file's length, or its refusal.
+abbrev pub writtenNumber : Outcome (List ℕ) → ℕ
+writtenNumber (ok s) = length s
+writtenNumber (refused n at) = refusalAt n at

@@ -1,11 +1,13 @@
-// What a host program in C calls: check and report, over a lent table or a table of their own.
+// What a host program in C calls: check and report, over a lent table or a table of their own; and, for editors, read and write.
+mod editing;
+
 ghost use mathlib.Core.Path.{_≡_};
 ghost use Prim.Native.Nat.{_<_};
 ghost use lib.ListN.{length};
 ghost use Rattle.format.specs.Reading.{reading};
 ghost use Rattle.checking.specs.Checking.{verdict, TableKept, valuesOf, Playable};
 ghost use Rattle.report.specs.Report.{textOf, delivered, lengthIn};
-ghost use Rattle.phrase.specs.Host.{tableWords, places, numberOf, numberFor};
+ghost use Rattle.phrase.specs.Host.{tableWords, places, refusalAt, numberOf, numberFor};
 use checker::check;
 use checking::Answer;
 use model::refusals::LATE_JOB;
@@ -17,14 +19,22 @@ pub const TABLE_WORDS: usize = 16384;
 // So many places have numbers of their own beside each refusal number.
 const PLACES: u64 = 4294967296;
 
+// A refusal's number and place in one.
+fn refusal(number: u32, place: usize) -> u64
+    requires { ⌜ place < places ⌝ }
+    ensures { λ r. ⌜ r ≡ refusalAt number place ⌝ }
+{
+    number as u64 * PLACES + place as u64
+}
+
 fn number(answer: Answer) -> u64
     requires { ⌜ valuesOf answer .place < places ⌝ }
     ensures { λ r. ⌜ r ≡ numberOf (valuesOf answer) ⌝ }
 {
     match answer {
         Answer::Accepted => 0,
-        Answer::Refused(number, place) => number as u64 * PLACES + place as u64,
-        Answer::Late(job, _, _) => LATE_JOB as u64 * PLACES + job as u64,
+        Answer::Refused(number, place) => refusal(number, place),
+        Answer::Late(job, _, _) => refusal(LATE_JOB, job),
     }
 }
 

@@ -13,9 +13,9 @@ use Rattle.words.proofs.Parts.{part-length}
 use Rattle.format.specs.Layout.{mostBells}
 use Rattle.format.specs.Outcome.{ok}
 use Rattle.format.specs.Phrase.{Phrase}
-use Rattle.rows.specs.internal.BellRow.{bellWords, bellRows}
-use Rattle.rows.specs.internal.NoteRow.{noteWords, noteRows}
-use Rattle.rows.specs.internal.PhraseTable.{bellRowsAt, noteRowsAt, phraseWords, header, phraseTable}
+use Rattle.rows.specs.BellRow.{bellWords, bellRows}
+use Rattle.rows.specs.NoteRow.{noteWords, noteRows}
+use Rattle.rows.specs.PhraseTable.{bellRowsAt, noteRowsAt, phraseWords, header, phraseTable}
 use Rattle.reader.specs.internal.Filling.{Filled, headed, rowsKept, completed}
 use Rattle.reader.specs.declared.Counts.{Counts}
 

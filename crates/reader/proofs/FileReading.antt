@@ -16,31 +16,20 @@ use Rattle.format.specs.Outcome.{Outcome, ok, refused, _>>_, require}
 use Rattle.format.specs.Phrase.{Bell, Note, Phrase}
 use Rattle.format.specs.Reading.{bellRecord, noteRecord, bellsFrom, notesFrom, bellsIn, notesIn, readingBy, reading}
 use Rattle.format.proofs.Passed.{within-true, required, bound, never}
-use Rattle.rows.specs.internal.BellRow.{bellWords, bellRow, bellRows, bellOfRow}
-use Rattle.rows.specs.internal.NoteRow.{noteWords, noteRow}
-use Rattle.rows.specs.internal.PhraseTable.{bellRowsAt, noteRowsAt, phraseWords}
+use Rattle.rows.specs.BellRow.{bellWords, bellRow, bellRows, bellOfRow}
+use Rattle.rows.specs.NoteRow.{noteWords, noteRow}
+use Rattle.rows.specs.PhraseTable.{bellRowsAt, noteRowsAt, phraseWords}
 use Rattle.rows.proofs.Records.{held, holds, begins-with-none}
 use Rattle.rows.proofs.BellRow.{rows-read-back}
 use Rattle.rows.proofs.PhraseTable.{one-layout}
 use Rattle.records.specs.internal.Answers.{readingOf}
+use Rattle.format.proofs.First.{is-version, no-version}
 use Rattle.reader.specs.internal.Parts.{headerOf, bodyOf}
 use Rattle.records.specs.internal.Filling.{listOf, bellsHeld, BellTable, HoldsBells, HoldsNotes}
 use Rattle.reader.specs.internal.Filling.{Filled, countsIn}
 use Rattle.records.specs.declared.answers.Reading.the-variants.{Refused}
 
 -- ---- the header
-
--- Version 1 is a version.
-is-version : (v : ℕ) → v ≡ 1 → isVersion v ≡ true
-unfolding isVersion within
-is-version v e = ap isVersion e
-
--- No other number is one.
-no-version : (v : ℕ) → (v ≡ 1 → ⊥) → isVersion v ≡ false
-unfolding isVersion within
-no-version zero h = refl
-no-version (suc zero) h = absurd (h refl)
-no-version (suc (suc v)) h = simp (le-leb 1 (suc (suc v)) (omega arith), lt-leb (suc (suc v)) 1 (omega arith))
 
 module _ (s : List ℕ) where
   -- An empty file has no count.

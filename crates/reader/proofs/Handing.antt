@@ -6,7 +6,8 @@ use Rattle.format.specs.Bytes.{AreBytes}
 use Rattle.format.specs.Outcome.{ok}
 use Rattle.format.specs.Reading.{reading}
 use Rattle.format.proofs.Theorems.{sound}
-use Rattle.rows.specs.internal.PhraseTable.{phraseTable, phraseOf, HandedOn}
+use Rattle.rows.specs.PhraseTable.{phraseTable, phraseOf}
+use Rattle.rows.specs.internal.Handed.{HandedOn}
 use Rattle.rows.proofs.PhraseTable.{phrase-of}
 use Rattle.records.specs.internal.Answers.{readingOf}
 use Rattle.records.specs.declared.answers.Reading.the-variants.{Whole}

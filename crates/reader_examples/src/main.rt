@@ -1,6 +1,6 @@
 // Reads example files from standard input, each after two bytes that say how long it is, and prints what is made of each: every bell and every job, or
 // the refusal; and whether all other words of the rows of bells and of notes, which held something before, are zero.
-ghost use Rattle.rows.specs.internal.PhraseTable.{HandedOn};
+ghost use Rattle.rows.specs.internal.Handed.{HandedOn};
 use jobs::row::BELL;
 use jobs::row::BESIDE;
 use jobs::row::JOB_TABLE;
@@ -22,6 +22,7 @@ use rows::BELL_ROWS;
 use rows::NOTE_COUNT;
 use rows::NOTE_ROWS;
 use rows::PHRASE_WORDS;
+use rows::SPARE;
 use rows::bell::BELL_WORDS;
 use rows::bell::SOUNDING;
 use rows::bell::WRITTEN;
@@ -32,7 +33,7 @@ use rows::note::NOTE_WORDS;
 // The bytes before a file: its length.
 const HEAD: usize = 2;
 
-// The key that the bell sounds for, what its record holds, and two zeros.
+// The key that the bell sounds for, what its record holds, the spare word, and a zero.
 fn show_bell(row: &[u32]) {
     if row.len() < BELL_WORDS {
         return;
@@ -40,7 +41,7 @@ fn show_bell(row: &[u32]) {
     print(b"bell");
     print_number(row[SOUNDING]);
     print_numbers(&row[WRITTEN..SOUNDING]);
-    print(b" 0 0\n");
+    print(b" 0\n");
 }
 
 // What the analysis asks of the job, its bell, its key, how many jobs its note lists, and a zero.
@@ -113,7 +114,7 @@ fn show_header(phrase: &[u32]) {
         return;
     }
     print(b"read");
-    print_numbers(&phrase[0..BELL_ROWS]);
+    print_numbers(&phrase[0..SPARE]);
     print(b"\n");
 }
 

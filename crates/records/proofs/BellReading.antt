@@ -20,9 +20,9 @@ use Rattle.format.specs.Reading.{bellIn, bellRecord, bellsFrom, bellsIn}
 use Rattle.format.proofs.Passed.{required}
 use Rattle.format.proofs.Steps.{long, more-bells}
 use Rattle.format.proofs.Steps as steps
-use Rattle.rows.specs.internal.Rows.{rowsIn}
-use Rattle.rows.specs.internal.BellRow.{bellWords, bellRow}
-use Rattle.rows.specs.internal.PhraseTable.{bellRowsAt}
+use Rattle.rows.specs.Rows.{rowsIn}
+use Rattle.rows.specs.BellRow.{bellWords, bellRow}
+use Rattle.rows.specs.PhraseTable.{bellRowsAt}
 use Rattle.rows.proofs.BellRow.{bells-more}
 use Rattle.records.specs.internal.Filling.{bellsHeld, BellTable}
 

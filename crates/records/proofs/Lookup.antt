@@ -10,8 +10,8 @@ use lib.Seq.{drop-cons}
 use borrow.Author.Tests.{eq-eqb, ne-eqb}
 use Rattle.format.specs.Phrase.{sounding, findFrom}
 use Rattle.format.specs.Jobs.{noBell}
-use Rattle.rows.specs.internal.BellRow.{bellWords, soundingWord, bellRow}
-use Rattle.rows.specs.internal.PhraseTable.{bellRowsAt}
+use Rattle.rows.specs.BellRow.{bellWords, soundingWord, bellRow}
+use Rattle.rows.specs.PhraseTable.{bellRowsAt}
 use Rattle.rows.proofs.BellRow.{bells-length, table-word}
 use Rattle.records.specs.internal.Filling.{bellsHeld, BellTable}
 

@@ -21,8 +21,8 @@ use Rattle.format.proofs.Passed.{required}
 use Rattle.format.proofs.Digits.{number-one}
 use Rattle.format.proofs.Given.{note-passed}
 use Rattle.format.proofs.Steps.{more-notes, stop-notes}
-use Rattle.rows.specs.internal.NoteRow.{noteWords, noteRow}
-use Rattle.rows.specs.internal.PhraseTable.{noteRowsAt}
+use Rattle.rows.specs.NoteRow.{noteWords, noteRow}
+use Rattle.rows.specs.PhraseTable.{noteRowsAt}
 use Rattle.rows.proofs.BellRow.{bells-kept, table-kept, table-begins}
 use Rattle.rows.proofs.NoteRow.{ListsFew, row-length, begins-none, begins-more}
 use Rattle.fields.specs.internal.NoteRecord.{WholeNote}

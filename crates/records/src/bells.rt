@@ -7,8 +7,8 @@ ghost use Rattle.words.specs.internal.Placed.{placed};
 ghost use Rattle.format.specs.Layout.{first, bellBytes, bellsAt, mostBells, noteCountAt};
 ghost use Rattle.format.specs.Phrase.{sounding, find};
 ghost use Rattle.format.specs.Reading.{bellIn, bellRecord, bellsFrom, bellsIn};
-ghost use Rattle.rows.specs.internal.BellRow.{bellWords, bellRow};
-ghost use Rattle.rows.specs.internal.PhraseTable.{bellRowsAt, phraseWords};
+ghost use Rattle.rows.specs.BellRow.{bellWords, bellRow};
+ghost use Rattle.rows.specs.PhraseTable.{bellRowsAt, phraseWords};
 ghost use Rattle.records.specs.internal.Answers.{foundOf, readingOf};
 ghost use Rattle.records.specs.internal.Filling.{listOf, bellsHeld, BellTable, bellPut, HoldsBells};
 use crate::answers::Found;
@@ -17,10 +17,10 @@ use fields::bells::is_in_range;
 use fields::bells::sounding_key;
 use fields::bells::write_bell;
 use fields::bytes::byte;
-use fields::bytes::is_within;
 use fields::layout::BELL_BYTES;
 use fields::layout::BELL_COUNT_AT;
 use fields::layout::BELLS_AT;
+use fields::rules::is_within;
 use model::refusals::DOUBLED_KEY;
 use model::refusals::WRONG_BELL;
 use model::refusals::WRONG_BELL_COUNT;
@@ -66,7 +66,7 @@ fn read_bell(part: &[u8], at: usize, phrase: &mut [u32], i: usize) -> Reading
         return Reading::Refused(WRONG_END, at);
     }
     let key = sounding_key(part);
-    if !is_in_range(part, key) {
+    if !is_in_range(part) {
         return Reading::Refused(WRONG_BELL, at);
     }
     let found = find_bell(phrase, i, key);

@@ -20,9 +20,10 @@ use Rattle.format.specs.Bytes.{AreBytes}
 use Rattle.format.specs.Valid.{Valid}
 use Rattle.format.proofs.Theorems.{sound}
 use Rattle.format.proofs.Jobs.{analysable}
-use Rattle.rows.specs.internal.BellRow.{mostExecutionWord, bellRow}
-use Rattle.rows.specs.internal.NoteRow.{keyWord, deadlineWord, struckWord, noteRowOn}
-use Rattle.rows.specs.internal.PhraseTable.{phraseTable, bellWord, noteWord}
+use Rattle.rows.specs.BellRow.{mostExecutionWord, bellRow}
+use Rattle.rows.specs.NoteRow.{keyWord, deadlineWord, struckWord, noteRowOn}
+use Rattle.rows.specs.PhraseTable.{phraseTable}
+use Rattle.rows.specs.internal.Handed.{bellWord, noteWord}
 use Rattle.rows.proofs.NoteRow.{row-words}
 use Rattle.rows.proofs.PhraseTable.{few-bells, few-notes, few-listed, struck-below, bell-word, note-word}
 use Rattle.jobs.proofs.JobRow.{jobs-length}

@@ -8,17 +8,17 @@ use lib.ListN.{length, getD, take, drop, length-drop}
 use lib.Seq.{getD-drop}
 use Rattle.words.specs.internal.Placed.{placed}
 use Rattle.words.proofs.Placing.{length-placed}
-use Rattle.format.specs.internal.Fits.{All}
+use Rattle.format.specs.Fits.{All}
 use Rattle.format.specs.Phrase.{Bell}
 use Rattle.format.specs.Jobs.{noBell}
 use Rattle.rows.specs.internal.Rows.{BeginsWith, Holds}
-use Rattle.rows.specs.internal.BellRow.{bellWords, bellRow, bellOfRow, bellsOfRows}
-use Rattle.rows.specs.internal.PhraseTable.{bellRowsAt}
+use Rattle.rows.specs.BellRow.{bellWords, bellRow, bellOfRow, bellsOfRows}
+use Rattle.rows.specs.PhraseTable.{bellRowsAt}
 use Rattle.rows.proofs.Records.{Wide, ReadBack, rows-length, drop-placed, part-before, held-word, holds-none, begins-with-none, begins-with-held, same-held, still-holds, more-held, holds-more}
 
 -- ---- a row
 
--- A row has six words.
+-- A row has seven words.
 pub row-length : (b : Bell) → length (bellRow b) ≡ bellWords
 unfolding bellRow
 row-length b = refl

@@ -2,4 +2,5 @@
 pub mod Records
 pub mod BellRow
 pub mod NoteRow
+pub mod RowsRead
 pub mod PhraseTable

@@ -11,10 +11,10 @@ use Rattle.words.proofs.Padded.{padded-length}
 use Rattle.format.specs.Layout.{mostListed}
 use Rattle.format.specs.Phrase.{Bell, Note}
 use Rattle.format.specs.Jobs.{struck}
-use Rattle.format.specs.internal.Fits.{All}
+use Rattle.format.specs.Fits.{All}
 use Rattle.rows.specs.internal.Rows.{BeginsWith}
-use Rattle.rows.specs.internal.PhraseTable.{noteRowsAt}
-use Rattle.rows.specs.internal.NoteRow.{noteWords, noteRowOn, noteRow, noteOfRow}
+use Rattle.rows.specs.PhraseTable.{noteRowsAt}
+use Rattle.rows.specs.NoteRow.{noteWords, noteRowOn, noteRow, noteOfRow}
 use Rattle.rows.proofs.Records.{Wide, ReadBack, drop-placed, begins-with-none, begins-with-more}
 
 -- The note lists at most four numbers.

@@ -13,11 +13,12 @@ use Rattle.format.specs.Outcome.{ok}
 use Rattle.format.specs.Phrase.{Bell, Note, Phrase}
 use Rattle.format.specs.Jobs.{noBell, noNote, note, struck}
 use Rattle.format.specs.Valid.{Each, ValidNote, Valid}
-use Rattle.format.specs.internal.Fits.{All}
+use Rattle.format.specs.Fits.{All}
 use Rattle.format.proofs.Jobs.{each-at, strikes}
-use Rattle.rows.specs.internal.BellRow.{bellWords, bellRow, bellRows, bellOfRow, bellsOfRows}
-use Rattle.rows.specs.internal.NoteRow.{noteWords, noteRow, noteRows, noteOfRow, notesOfRows}
-use Rattle.rows.specs.internal.PhraseTable.{bellRowsAt, noteRowsAt, header, phraseTable, phraseOf, bellWord, noteWord}
+use Rattle.rows.specs.BellRow.{bellWords, bellRow, bellRows, bellOfRow, bellsOfRows}
+use Rattle.rows.specs.NoteRow.{noteWords, noteRow, noteRows, noteOfRow, notesOfRows}
+use Rattle.rows.specs.PhraseTable.{bellRowsAt, noteRowsAt, header, phraseTable, phraseOf}
+use Rattle.rows.specs.internal.Handed.{bellWord, noteWord}
 use Rattle.rows.proofs.Records.{Wide, records-length, records-word, rows-back}
 use Rattle.rows.proofs.BellRow as bell-rows
 use Rattle.rows.proofs.NoteRow.{ListsFew}

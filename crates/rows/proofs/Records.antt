@@ -9,8 +9,9 @@ use lib.Seq.{length-take-le, take-append-le, getD-append-add, getD-take, take-ta
 use Rattle.words.specs.internal.Placed.{placed}
 use Rattle.words.proofs.Placing.{take-placed, length-placed}
 use Rattle.format.specs.Bytes.{records}
-use Rattle.format.specs.internal.Fits.{All}
-use Rattle.rows.specs.internal.Rows.{rowsIn, BeginsWith, Holds}
+use Rattle.format.specs.Fits.{All}
+use Rattle.rows.specs.Rows.{rowsIn}
+use Rattle.rows.specs.internal.Rows.{BeginsWith, Holds}
 
 -- one row more at the end
 pub records-snoc : {A : Type 0} (row : A → List ℕ) (xs : List A) (x : A) → records row (xs ++ x ∷ []) ≡ records row xs ++ row x

@@ -1,5 +1,5 @@
 // The row of a bell: what its record holds, and the key that it sounds for.
-pub const BELL_WORDS: usize = 6;
+pub const BELL_WORDS: usize = 7;
 
 pub const WRITTEN: usize = 0;
 
@@ -11,4 +11,7 @@ pub const MOST_EXECUTION: usize = 3;
 
 pub const PRIORITY: usize = 4;
 
-pub const SOUNDING: usize = 5;
+// For what later versions add.
+pub const SPARE: usize = 5;
+
+pub const SOUNDING: usize = 6;

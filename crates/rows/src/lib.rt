@@ -7,9 +7,10 @@ ghost use Prim.Native.Nat.{_<_};
 ghost use lib.ListN.{getD};
 ghost use Rattle.model.specs.Limits.{mostJobs};
 ghost use Rattle.format.specs.Layout.{mostBells};
-ghost use Rattle.rows.specs.internal.BellRow.{bellWords};
-ghost use Rattle.rows.specs.internal.NoteRow.{noteWords};
-ghost use Rattle.rows.specs.internal.PhraseTable.{bellRowsAt, bellWord, noteWord};
+ghost use Rattle.rows.specs.BellRow.{bellWords};
+ghost use Rattle.rows.specs.NoteRow.{noteWords};
+ghost use Rattle.rows.specs.PhraseTable.{bellRowsAt};
+ghost use Rattle.rows.specs.internal.Handed.{bellWord, noteWord};
 use crate::bell::BELL_WORDS;
 use crate::note::NOTE_WORDS;
 use model::limits::MOST_JOBS;
@@ -25,8 +26,11 @@ pub const BELL_COUNT: usize = 2;
 
 pub const NOTE_COUNT: usize = 3;
 
+// For what later versions add.
+pub const SPARE: usize = 4;
+
 // Where the rows of the bells begin, and those of the notes.
-pub const BELL_ROWS: usize = 4;
+pub const BELL_ROWS: usize = 5;
 
 pub const NOTE_ROWS: usize = BELL_ROWS + MOST_BELLS * BELL_WORDS;
 

@@ -5,11 +5,13 @@ use std::ops::RangeInclusive;
 use std::time::{Duration, Instant};
 
 use reference::check::check;
-use reference::foreign;
-use reference::random::{Generator, Shape, accepted_words, draft};
-use reference::reading::{Phrase, read};
+use reference::examples::P;
+use reference::foreign::{self, HostPhrase};
+use reference::random::{Generator, Shape, accepted_words, draft, longest};
+use reference::reading::{Phrase, Refusal, read};
 use reference::report::report;
 use reference::walk::{walk, words_per_state};
+use reference::writing::{EditedPhrase, write_into};
 
 const SEED: u64 = 1;
 const STROKES: [u64; 4] = [8, 16, 32, 64];
@@ -25,6 +27,15 @@ fn main() {
     );
     println!("|--:|--:|--:|--:|--:|--:|--:|--:|--:|--:|--:|");
     each(|strokes, drivers| print_reading_and_report(&clockwork(strokes, drivers)));
+
+    println!("\nA phrase read from its file, and written to a lent buffer (µs)\n");
+    println!(
+        "| bells | K | bytes | reading, library | this | ratio | writing, library | this | ratio |"
+    );
+    println!("|--:|--:|--:|--:|--:|--:|--:|--:|--:|");
+    print_reading_and_writing(&P);
+    print_reading_and_writing(&clockwork(16, 4));
+    print_reading_and_writing(&longest(&mut Generator::new(SEED)).bytes());
 
     println!("\nAnalysis, in a table just long enough and in one of half that length\n");
     print_analysis_head();
@@ -204,6 +215,52 @@ fn print_reading_and_report(file: &[u8]) {
         own.report / 1e3,
         library.report / own.report
     );
+}
+
+fn print_reading_and_writing(file: &[u8]) {
+    let phrase = phrase(file);
+    let edited = EditedPhrase::from(&phrase);
+    let mut host = HostPhrase::of(&edited, || 0);
+    let mut read_host = HostPhrase::zero();
+    let mut buffer = vec![0; file.len()];
+    let mut buffer_again = vec![0; file.len()];
+    agree_on_writing(file, &edited, &mut host);
+    let [library_read, own_read, library_write, own_write] = nanoseconds([
+        &mut || foreign::phrase_read(black_box(file), black_box(&mut read_host)),
+        &mut || match black_box(read(black_box(file))) {
+            Ok(phrase) => phrase.strokes.len() as u64,
+            Err(refusal) => refusal.host_number(),
+        },
+        &mut || foreign::phrase_write(black_box(&mut host), black_box(&mut buffer)),
+        &mut || written(black_box(&edited), black_box(&mut buffer_again)),
+    ]);
+    println!(
+        "| {} | {} | {} | {:.3} | {:.3} | {:.2} | {:.3} | {:.3} | {:.2} |",
+        phrase.bells.len(),
+        phrase.strokes.len(),
+        file.len(),
+        library_read / 1e3,
+        own_read / 1e3,
+        library_read / own_read,
+        library_write / 1e3,
+        own_write / 1e3,
+        library_write / own_write
+    );
+}
+
+/// This writer's answer, as the host's call gives it.
+fn written(phrase: &EditedPhrase, buffer: &mut [u8]) -> u64 {
+    write_into(phrase, buffer).map_or_else(Refusal::host_number, |length| length as u64)
+}
+
+fn agree_on_writing(file: &[u8], phrase: &EditedPhrase, host: &mut HostPhrase) {
+    let mut found = [vec![0; file.len()], vec![0; file.len()]];
+    let answers = [
+        foreign::phrase_write(host, &mut found[0]),
+        written(phrase, &mut found[1]),
+    ];
+    assert_eq!(answers, [file.len() as u64; 2], "answers differ");
+    assert!(found.iter().all(|found| found == file), "files differ");
 }
 
 fn print_analysis(file: &[u8], words: usize) {

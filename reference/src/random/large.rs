@@ -209,7 +209,7 @@ fn add_group(
 }
 
 /// So many different numbers below `limit`, in any order.
-fn distinct(random: &mut Generator, limit: u64, count: u64) -> Vec<u64> {
+pub(super) fn distinct(random: &mut Generator, limit: u64, count: u64) -> Vec<u64> {
     let mut numbers: Vec<u64> = (0..limit).collect();
     (0..count)
         .map(|_| numbers.swap_remove(random.below(numbers.len() as u64) as usize))

@@ -149,6 +149,13 @@ pub fn valid(random: &mut Generator) -> Vec<u8> {
     }
 }
 
+/// A valid draft of any shape, dues drawn somewhere; nothing is walked for it.
+pub(super) fn unwalked(random: &mut Generator) -> Draft {
+    let shape = random.pick(&SHAPES);
+    let draft = draft(random, &shape);
+    with_drawn_dues(random, draft)
+}
+
 /// A draft of this shape, every due time the latest there is.
 pub fn draft(random: &mut Generator, shape: &Shape) -> Draft {
     let range = |random: &mut Generator, (low, high)| random.range(low, high);

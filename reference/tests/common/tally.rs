@@ -1,15 +1,14 @@
-//! Counts the kinds of answers: 0 for accepted, else the refusal's number.
-
-use reference::check::Check;
+//! Counts the kinds of answers: 0 for accepted, read or written, else the refusal's number.
 
 #[derive(Default)]
 pub struct Tally {
-    pub counts: [u64; 16],
+    pub counts: [u64; 17],
 }
 
 impl Tally {
-    pub fn add(&mut self, check: &Check) {
-        self.counts[(check.host_number() >> 32) as usize] += 1;
+    /// An answer as the host has it, with the refusal's number in its upper half.
+    pub fn add(&mut self, answer: u64) {
+        self.counts[(answer >> 32) as usize] += 1;
     }
 
     pub fn print(&self, title: &str) {

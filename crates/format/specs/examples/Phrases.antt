@@ -1,4 +1,5 @@
--- The rules on phrases, some of them wider than their bytes, and the files of phrases: two tables, each with one result. Assumes nothing.
+-- The rules on phrases, some of them wider than their bytes, the files of phrases, and their writing into buffers of all lengths: a table for each.
+-- Assumes nothing.
 use Prim.Native.Nat.{ℕ, zero, suc, _+_}
 use mathlib.Core.Path.{_≡_, refl}
 use mathlib.Core.List.{List, [], _∷_, _++_, map}
@@ -6,7 +7,7 @@ use lib.ListN.{replicate}
 use Rattle.format.specs.Outcome.{Outcome, ok, refused}
 use Rattle.format.specs.Phrase.{Bell, Phrase}
 use Rattle.format.specs.Rules.{rules}
-use Rattle.format.specs.Writing.{written}
+use Rattle.format.specs.Writing.{written, writing, leaves}
 use Rattle.format.specs.examples.Files.{fileP, fileQ, bell, note, phrase, bell0, bell1, note0, note1, phraseP, phraseQ, noted, belled}
 
 -- ---- the rules
@@ -137,3 +138,41 @@ copies =
 pub files : map (λ (c : Copy). written (c .phrase)) copies ≡ map (λ (c : Copy). c .file) copies
 unfolding written
 files = refl
+
+-- ---- the writing
+
+-- a phrase, the room for its file, and what is due
+pub record Trial : Type 0 where
+  pub phrase : Phrase
+  pub room : ℕ
+  pub due : Outcome (List ℕ)
+
+abbrev trial : Phrase → ℕ → Outcome (List ℕ) → Trial
+trial x room due = record { phrase = x; room = room; due = due }
+
+abbrev pub trials : List Trial
+trials =
+    -- P has 50 bytes: exactly so many suffice, and one less does not
+    trial phraseP 50 (ok fileP)
+    ∷ trial phraseP 4096 (ok fileP)
+    ∷ trial phraseP 49 (refused 16 0)
+    ∷ trial phraseP 0 (refused 16 0)
+    -- every field is tested before the room is: the version, a rank of a byte too many, the key of the last note, a wait that is 0 in one byte
+    ∷ trial (versioned 257) 0 (refused 1 0)
+    ∷ trial (belled (bell 60 0 2 2 256 ∷ bell1 ∷ [])) 0 (refused 6 7)
+    ∷ trial (noted (note0 ∷ note 74 0 0 6 (0 ∷ []) ∷ note 61 0 0 6 [] ∷ [])) 0 (refused 10 51)
+    ∷ trial (noted (note0 ∷ note 74 0 0 6 (256 ∷ []) ∷ [])) 49 (refused 12 36)
+    -- five waits, wherever the file would end
+    ∷ trial (lists (0 ∷ 1 ∷ 2 ∷ 3 ∷ 4 ∷ [])) 4096 (refused 9 92)
+    ∷ []
+
+-- Every trial ends as it is due.
+pub writings : map (λ (t : Trial). writing (t .phrase) (t .room)) trials ≡ map (λ (t : Trial). t .due) trials
+unfolding writing
+writings = refl
+
+-- What a buffer of four bytes holds after a file of two, after one of four, and after a refusal.
+pub left :
+    leaves (ok (1 ∷ 2 ∷ [])) (6 ∷ 7 ∷ 8 ∷ 9 ∷ []) ∷ leaves (ok (1 ∷ 2 ∷ 3 ∷ 4 ∷ [])) (6 ∷ 7 ∷ 8 ∷ 9 ∷ []) ∷ leaves (refused 16 0) (6 ∷ 7 ∷ 8 ∷ 9 ∷ []) ∷ []
+    ≡ (1 ∷ 2 ∷ 8 ∷ 9 ∷ []) ∷ (1 ∷ 2 ∷ 3 ∷ 4 ∷ []) ∷ (6 ∷ 7 ∷ 8 ∷ 9 ∷ []) ∷ []
+left = refl

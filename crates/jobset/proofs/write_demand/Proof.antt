@@ -9,8 +9,8 @@ use borrow.Author.Needs.{needs}
 use Rattle.model.specs.Jobs.{job}
 use Rattle.words.specs.internal.Placed.{placed}
 use Rattle.words.proofs.Placing.{sets-placed}
-use Rattle.rows.specs.internal.BellRow.{bellWords, leastExecutionWord, mostExecutionWord, priorityWord}
-use Rattle.rows.specs.internal.PhraseTable.{bellRowsAt}
+use Rattle.rows.specs.BellRow.{bellWords, leastExecutionWord, mostExecutionWord, priorityWord}
+use Rattle.rows.specs.PhraseTable.{bellRowsAt}
 use Rattle.jobs.specs.internal.JobRow.{earliestReleaseAt}
 use Rattle.jobs.specs.internal.Fields.{fields}
 use Rattle.jobset.specs.internal.Making.{jobsHeld}

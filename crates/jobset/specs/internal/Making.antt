@@ -7,7 +7,7 @@ use Rattle.model.specs.Jobs.{Job}
 use Rattle.words.specs.Padded.{padded}
 use Rattle.format.specs.Jobs.{jobsOf}
 use Rattle.format.specs.internal.Analysable.{mostPredecessors}
-use Rattle.rows.specs.internal.PhraseTable.{phraseOf}
+use Rattle.rows.specs.PhraseTable.{phraseOf}
 use Rattle.jobs.specs.internal.JobRow.{besideWords}
 use Rattle.jobset.specs.declared.Found.{Found}
 use Rattle.jobset.specs.declared.Found.the-variants.{At, Nothing}

@@ -1,12 +1,13 @@
 -- The numbers that a host gets, worked out by hand. Assumes nothing.
 use Prim.Native.Nat.{ℕ}
 use mathlib.Core.Path.{_≡_, refl}
-use mathlib.Core.List.{List, [], _∷_, map}
+use mathlib.Core.List.{List, [], _∷_, _++_, map}
 use Rattle.model.specs.Exploration.{analysis}
 use Rattle.format.specs.Reading.{reading}
-use Rattle.format.specs.examples.Files.{fileP}
+use Rattle.format.specs.Outcome.{ok, refused}
+use Rattle.format.specs.examples.Files.{fileP, phraseP}
 use Rattle.checking.specs.examples.Checks.{versionNine, byteRemains, latePhrase, Case, lent, dues, given, values}
-use Rattle.phrase.specs.Host.{tableWords, places, numberOf, numberFor}
+use Rattle.phrase.specs.Host.{tableWords, places, numberOf, numberFor, readNumber, writtenNumber}
 
 -- a table of 16,384 words, and two to the 32nd places
 pub sizes : tableWords ∷ places ∷ [] ≡ 16384 ∷ 4294967296 ∷ []
@@ -17,6 +18,12 @@ pub numbers :
     map numberOf (values 0 0 0 0 ∷ values 4 5 0 0 ∷ values 13 1 0 0 ∷ values 14 3 6 7 ∷ [])
     ≡ 0 ∷ 17179869189 ∷ 55834574849 ∷ 60129542147 ∷ []
 numbers = refl
+
+-- a file that was read, and refusal 12 at 36; a file of 50 bytes that was written, refusal 9 at 92, and 16
+pub edits :
+    map readNumber (ok phraseP ∷ refused 12 36 ∷ []) ++ map writtenNumber (ok fileP ∷ refused 9 92 ∷ refused 16 0 ∷ [])
+    ≡ 0 ∷ 51539607588 ∷ 50 ∷ 38654705756 ∷ 68719476736 ∷ []
+edits = refl
 
 -- files and tables, and the number that is due
 abbrev pub table : List (Case ℕ)

@@ -1,5 +1,6 @@
 -- `complete` meets its contract: the stores write the header, and the parts that are cleared stand after the rows. Assumes nothing.
 use native.Mathlib.Omega.{arith}
+use lib.ListN.{length-set}
 use denote.Ref.{now}
 use Rattle.reader.proofs.Completing.{header-length, bells-length, notes-length, all-cleared}
 use borrow.Author.Needs.{needs}
@@ -17,6 +18,9 @@ slice-write-phrase-3 c = search needs
 
 slice-write-phrase-4 : tie.Need-slice-write-phrase-4
 slice-write-phrase-4 c = search needs
+
+slice-write-phrase-5 : tie.Need-slice-write-phrase-5
+slice-write-phrase-5 c = simp length-set (omega arith)
 
 cast-bell-end : tie.Need-cast-bell-end
 cast-bell-end c = search needs
@@ -93,6 +97,7 @@ complete-spec =
     slice-write-phrase-2
     slice-write-phrase-3
     slice-write-phrase-4
+    slice-write-phrase-5
     cast-bell-end
     mul-bell-end
     add-bell-end

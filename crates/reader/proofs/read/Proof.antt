@@ -9,7 +9,7 @@ use Rattle.format.specs.Layout.{mostBells}
 use Rattle.format.specs.Outcome.{ok}
 use Rattle.format.specs.Phrase.{Phrase}
 use Rattle.format.specs.Reading.{reading}
-use Rattle.rows.specs.internal.PhraseTable.{phraseWords, phraseTable}
+use Rattle.rows.specs.PhraseTable.{phraseWords, phraseTable}
 use Rattle.reader.specs.internal.Filling.{Filled, completed}
 use Rattle.records.proofs.Outcomes.{was-ok, was-refused}
 use Rattle.reader.proofs.FileReading.{body-of-read, CountsRead, counts-read}

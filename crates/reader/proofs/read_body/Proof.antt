@@ -9,7 +9,7 @@ use Rattle.format.specs.Layout.{first, mostBells, noteCountAt}
 use Rattle.format.specs.Outcome.{ok}
 use Rattle.format.specs.Phrase.{Bell}
 use Rattle.format.specs.Reading.{bellsIn, notesIn}
-use Rattle.rows.specs.internal.PhraseTable.{phraseWords}
+use Rattle.rows.specs.PhraseTable.{phraseWords}
 use Rattle.reader.specs.internal.Parts.{bodyOf}
 use Rattle.records.specs.internal.Filling.{listOf, bellsHeld, BellTable, HoldsBells}
 use Rattle.records.proofs.Outcomes.{was-ok, was-refused}

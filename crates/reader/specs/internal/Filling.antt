@@ -7,9 +7,9 @@ use Rattle.format.specs.Bytes.{number}
 use Rattle.format.specs.Layout.{first, coresAt, bellCountAt, noteCountAt, mostBells}
 use Rattle.format.specs.Outcome.{Outcome, ok, refused}
 use Rattle.format.specs.Phrase.{Bell, Note, Phrase}
-use Rattle.rows.specs.internal.BellRow.{bellWords}
-use Rattle.rows.specs.internal.NoteRow.{noteWords}
-use Rattle.rows.specs.internal.PhraseTable.{bellRowsAt, noteRowsAt}
+use Rattle.rows.specs.BellRow.{bellWords}
+use Rattle.rows.specs.NoteRow.{noteWords}
+use Rattle.rows.specs.PhraseTable.{bellRowsAt, noteRowsAt}
 use Rattle.records.specs.internal.Filling.{HoldsBells, HoldsNotes}
 use Rattle.reader.specs.declared.Counts.{Counts}
 
@@ -41,7 +41,7 @@ countsIn s =
     }
 
 abbrev pub headed : Counts → List ℕ
-headed c = c .version ∷ c .cores ∷ c .bells ∷ c .notes ∷ []
+headed c = c .version ∷ c .cores ∷ c .bells ∷ c .notes ∷ 0 ∷ []
 
 -- the first n rows of a part of the table for so many, and zeros after them
 abbrev pub rowsKept : ℕ → ℕ → ℕ → List ℕ → List ℕ

@@ -6,9 +6,9 @@ use Rattle.words.specs.internal.Placed.{placed}
 use Rattle.format.specs.Outcome.{Outcome, ok, refused}
 use Rattle.format.specs.Phrase.{Bell, Note}
 use Rattle.rows.specs.internal.Rows.{BeginsWith, Holds}
-use Rattle.rows.specs.internal.BellRow.{bellWords, bellRow, bellOfRow, bellsOfRows}
-use Rattle.rows.specs.internal.NoteRow.{noteWords, noteRow}
-use Rattle.rows.specs.internal.PhraseTable.{bellRowsAt, noteRowsAt}
+use Rattle.rows.specs.BellRow.{bellWords, bellRow, bellOfRow, bellsOfRows}
+use Rattle.rows.specs.NoteRow.{noteWords, noteRow}
+use Rattle.rows.specs.PhraseTable.{bellRowsAt, noteRowsAt}
 
 -- what was read, nothing on a refusal
 abbrev pub listOf : {A : Type 0} → Outcome (List A) → List A

@@ -4,9 +4,9 @@ use mathlib.Core.List.{List, _++_}
 use lib.ListN.{getD}
 use Rattle.format.specs.Rules.{lowestKey}
 use Rattle.format.specs.Layout.{mostBells}
-use Rattle.rows.specs.internal.BellRow.{mostExecutionWord}
-use Rattle.rows.specs.internal.NoteRow.{keyWord, deadlineWord, struckWord}
-use Rattle.rows.specs.internal.PhraseTable.{bellWord, noteWord}
+use Rattle.rows.specs.BellRow.{mostExecutionWord}
+use Rattle.rows.specs.NoteRow.{keyWord, deadlineWord, struckWord}
+use Rattle.rows.specs.internal.Handed.{bellWord, noteWord}
 use Rattle.checking.specs.declared.Answer.{Answer}
 use Rattle.checking.specs.declared.Answer.the-variants.{Accepted, Refused, Late}
 use Rattle.checking.specs.declared.Checked.{Checked}

@@ -2,26 +2,27 @@
 use mathlib.Core.Path.{_≡_, refl}
 use mathlib.Core.List.{List, [], _∷_, _++_}
 use Prim.Native.Nat.{ℕ}
-use lib.ListN.{length, set, take, replicate}
+use lib.ListN.{length, getD, set, take, replicate}
 use Rattle.format.specs.Bytes.{records}
 use Rattle.format.specs.Outcome.{ok, refused}
 use Rattle.format.specs.Phrase.{Phrase, sounding, findFrom}
+use Rattle.format.specs.Jobs.{noNote}
 use Rattle.format.specs.examples.Files.{bell, note, phraseP}
-use Rattle.rows.specs.internal.Rows.{rowsIn}
-use Rattle.rows.specs.internal.BellRow.{bellRow}
-use Rattle.rows.specs.internal.NoteRow.{noteRowOn}
-use Rattle.rows.specs.internal.PhraseTable.{phraseTable, phraseOf}
+use Rattle.rows.specs.Rows.{rowsIn}
+use Rattle.rows.specs.BellRow.{bellRow}
+use Rattle.rows.specs.NoteRow.{noteRowOn}
+use Rattle.rows.specs.PhraseTable.{phraseTable, phraseOf}
 
 -- ---- document 01's phrase P
 
--- the header: version, cores, bells, notes; 96 rows of 6 words for the bells; 64 rows of 10 words for the notes
+-- the header: version, cores, bells, notes, a spare word; 96 rows of 7 words for the bells; 64 rows of 10 words for the notes
 abbrev tableP : List ℕ
 tableP =
-    (1 ∷ 1 ∷ 2 ∷ 2 ∷ [])
-    -- N, T, ca, cb, p, and the key that the bell sounds for
-    ++ (60 ∷ 0 ∷ 2 ∷ 2 ∷ 1 ∷ 60 ∷ [])
-    ++ (62 ∷ 12 ∷ 4 ∷ 4 ∷ 2 ∷ 74 ∷ [])
-    ++ replicate 564 0
+    (1 ∷ 1 ∷ 2 ∷ 2 ∷ 0 ∷ [])
+    -- N, T, ca, cb, p, a spare word, and the key that the bell sounds for
+    ++ (60 ∷ 0 ∷ 2 ∷ 2 ∷ 1 ∷ 0 ∷ 60 ∷ [])
+    ++ (62 ∷ 12 ∷ 4 ∷ 4 ∷ 2 ∷ 0 ∷ 74 ∷ [])
+    ++ replicate 658 0
     -- key, ra, rb, d, how many jobs the note lists, four words for these, and the number of the bell that it strikes
     ++ (60 ∷ 0 ∷ 5 ∷ 7 ∷ 0 ∷ 0 ∷ 0 ∷ 0 ∷ 0 ∷ 0 ∷ [])
     ++ (74 ∷ 0 ∷ 0 ∷ 6 ∷ 0 ∷ 0 ∷ 0 ∷ 0 ∷ 0 ∷ 1 ∷ [])
@@ -48,11 +49,11 @@ phraseR =
 
 abbrev tableR : List ℕ
 tableR =
-    (1 ∷ 2 ∷ 3 ∷ 4 ∷ [])
-    ++ (60 ∷ 0 ∷ 2 ∷ 2 ∷ 1 ∷ 60 ∷ [])
-    ++ (62 ∷ 244 ∷ 3 ∷ 9 ∷ 0 ∷ 50 ∷ [])
-    ++ (62 ∷ 12 ∷ 4 ∷ 5 ∷ 2 ∷ 74 ∷ [])
-    ++ replicate 558 0
+    (1 ∷ 2 ∷ 3 ∷ 4 ∷ 0 ∷ [])
+    ++ (60 ∷ 0 ∷ 2 ∷ 2 ∷ 1 ∷ 0 ∷ 60 ∷ [])
+    ++ (62 ∷ 244 ∷ 3 ∷ 9 ∷ 0 ∷ 0 ∷ 50 ∷ [])
+    ++ (62 ∷ 12 ∷ 4 ∷ 5 ∷ 2 ∷ 0 ∷ 74 ∷ [])
+    ++ replicate 651 0
     ++ (74 ∷ 1 ∷ 2 ∷ 9 ∷ 0 ∷ 0 ∷ 0 ∷ 0 ∷ 0 ∷ 2 ∷ [])
     ++ (50 ∷ 0 ∷ 5 ∷ 7 ∷ 1 ∷ 0 ∷ 0 ∷ 0 ∷ 0 ∷ 1 ∷ [])
     ++ (60 ∷ 0 ∷ 0 ∷ 6 ∷ 0 ∷ 0 ∷ 0 ∷ 0 ∷ 0 ∷ 0 ∷ [])
@@ -73,10 +74,27 @@ pub fewer-held : phraseOf (set (set tableR 2 1) 3 2)
 unfolding rowsIn
 fewer-held = refl
 
+-- spare words (of the header and of bell 0) and derived ones (the key of bell 0, the bell of note 0) say nothing of the phrase
+pub others-ignored : phraseOf (set (set (set (set tableP 4 9) 10 9) 11 99) 686 9) ≡ phraseP
+unfolding rowsIn
+others-ignored = refl
+
+-- a note that counts five jobs lists more than four, whatever its row has room for
+pub crowded : length (getD (phraseOf (set tableP 681 5) .notes) 0 noNote .listed) ≡ 5
+unfolding rowsIn
+crowded = refl
+
+-- 97 bells and 65 notes are as many
+pub counted :
+    length (phraseOf (set tableP 2 97) .bells) ∷ length (phraseOf (set tableP 3 65) .notes) ∷ []
+    ≡ 97 ∷ 65 ∷ []
+unfolding rowsIn
+counted = refl
+
 -- ---- a refusal: zeros only, and as many
 
-pub refused-table : phraseTable (refused 12 36) ≡ replicate 1220 0
+pub refused-table : phraseTable (refused 12 36) ≡ replicate 1317 0
 refused-table = refl
 
-pub table-lengths : length tableP ∷ length tableR ∷ [] ≡ 1220 ∷ 1220 ∷ []
+pub table-lengths : length tableP ∷ length tableR ∷ [] ≡ 1317 ∷ 1317 ∷ []
 table-lengths = refl

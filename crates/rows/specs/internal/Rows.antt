@@ -1,14 +1,10 @@
--- Rows of one width, one after the other. Assumes nothing.
-use Prim.Native.Nat.{ℕ, zero, suc, _*_, _≤_}
+-- Rows that a table begins with. Assumes nothing.
+use Prim.Native.Nat.{ℕ, _*_, _≤_}
 use mathlib.Core.Path.{_≡_}
-use mathlib.Core.List.{List, [], _∷_}
-use lib.ListN.{length, take, drop}
+use mathlib.Core.List.{List}
+use lib.ListN.{length, take}
 use Rattle.format.specs.Bytes.{records}
-
--- what the first n rows of a width hold, each by what the words that it begins hold
-unfoldable pub rowsIn : {A : Type 0} → (List ℕ → A) → ℕ → List ℕ → ℕ → List A
-rowsIn one w t zero = []
-rowsIn one w t (suc n) = one t ∷ rowsIn one w (drop w t) n
+use Rattle.rows.specs.Rows.{rowsIn}
 
 -- the words begin with the rows of these
 abbrev pub BeginsWith : {A : Type 0} → (A → List ℕ) → ℕ → List A → List ℕ → Type 0

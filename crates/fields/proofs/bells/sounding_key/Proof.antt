@@ -1,10 +1,7 @@
 -- `bells::sounding_key` meets its contract. Assumes nothing.
-use Prim.Native.Nat.{_≤_, _<_}
-use native.Mathlib.Omega.{arith}
-use borrow.Author.Tests.{lt-ltb, le-ltb}
-use denote.Ref.{now}
-use Rattle.format.specs.Bytes.{number, fieldsIn}
-use Rattle.format.specs.Phrase.{sounding}
+use mathlib.Core.Path.{_∙_}
+use Rattle.format.specs.Bytes.{fieldsIn}
+use Rattle.format.specs.Phrase.{transposed, sounding}
 use Rattle.format.specs.Reading.{bellIn}
 use borrow.Author.Needs.{needs}
 use Rattle.fields.proofs.bells.sounding_key.Statement.{statement}
@@ -16,46 +13,13 @@ byte-requires c κs = search needs
 byte-requires-2 : tie.Need-byte-requires-2
 byte-requires-2 c κs = search needs
 
-add-result : tie.Need-add-result
-add-result c = search needs
+transposed-requires : tie.Need-transposed-requires
+transposed-requires c κs = (c .before .byte .ensures .1, c .byte2 .ensures .1)
 
 returns : tie.Need-returns
 unfolding sounding bellIn fieldsIn
 returns c =
-    let l : number 1 1 (now (c .before .before .before .before .args .part)) < 128 = omega arith in
-    simp (lt-ltb _ _ l) (omega arith)
-
-add-if2 : tie.Need-add-if2
-add-if2 c = search needs
-
-returns-2 : tie.Need-returns-2
-unfolding sounding bellIn fieldsIn
-returns-2 c =
-    let l : 128 ≤ number 1 1 (now (c .before .before .before .before .before .args .part)) = omega arith in
-    simp (le-ltb _ _ l) (omega arith)
-
-add-result-2 : tie.Need-add-result-2
-add-result-2 c = search needs
-
-sub-result : tie.Need-sub-result
-sub-result c = search needs
-
-returns-3 : tie.Need-returns-3
-unfolding sounding bellIn fieldsIn
-returns-3 c =
-    let l : 128 ≤ number 1 1 (now (c .before .before .before .before .before .args .part)) = omega arith in
-    simp (le-ltb _ _ l) (omega arith)
+    c .transposed .ensures ∙ (λ i. transposed (c .before .before .byte .ensures .0 i) (c .before .byte2 .ensures .0 i))
 
 pub sounding-key-spec : {M : Type 1} → statement M
-sounding-key-spec =
-    tie.close
-    (tie.spec
-    byte-requires
-    byte-requires-2
-    add-result
-    returns
-    add-if2
-    returns-2
-    add-result-2
-    sub-result
-    returns-3)
+sounding-key-spec = tie.close (tie.spec byte-requires byte-requires-2 transposed-requires returns)

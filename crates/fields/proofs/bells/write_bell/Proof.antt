@@ -7,7 +7,7 @@ use denote.Ref.{now}
 use Rattle.format.specs.Bytes.{fieldsIn}
 use Rattle.format.specs.Layout.{first}
 use Rattle.format.specs.Reading.{bellIn}
-use Rattle.rows.specs.internal.BellRow.{bellRow}
+use Rattle.rows.specs.BellRow.{bellRow}
 use Rattle.words.proofs.Placing.{sets-placed, placed-whole}
 use borrow.Author.Needs.{needs}
 use Rattle.fields.proofs.bells.write_bell.Statement.{statement}
@@ -46,6 +46,9 @@ slice-write-row-5 c = simp length-set (omega arith)
 slice-write-row-6 : tie.Need-slice-write-row-6
 slice-write-row-6 c = simp length-set (omega arith)
 
+slice-write-row-7 : tie.Need-slice-write-row-7
+slice-write-row-7 c = simp length-set (omega arith)
+
 same-length : tie.Need-same-length
 same-length c = simp length-set
 
@@ -57,9 +60,9 @@ returns c =
     let transposed = c .before .before .before .byte2 in
     let least = c .before .before .be-16 in
     let most = c .before .be-162 in
-    let ws = wrote .result ∷ transposed .result ∷ least .result ∷ most .result ∷ c .byte3 .result ∷ a .args .key ∷ [] in
+    let ws = wrote .result ∷ transposed .result ∷ least .result ∷ most .result ∷ c .byte3 .result ∷ 0 ∷ a .args .key ∷ [] in
     let e : ws ≡ bellRow (bellIn first (now (a .args .part))) =
-    λ i. wrote .ensures .0 i ∷ transposed .ensures .0 i ∷ least .ensures .0 i ∷ most .ensures .0 i ∷ c .byte3 .ensures .0 i ∷ a .pre .1 i ∷ [] in
+    λ i. wrote .ensures .0 i ∷ transposed .ensures .0 i ∷ least .ensures .0 i ∷ most .ensures .0 i ∷ c .byte3 .ensures .0 i ∷ 0 ∷ a .pre .1 i ∷ [] in
     sets-placed (now (a .args .row)) 0 ws (omega (arith, a .pre .2)) ∙ placed-whole (now (a .args .row)) ws (a .pre .2) ∙ e
 
 pub write-bell-spec : {M : Type 1} → statement M
@@ -77,5 +80,6 @@ write-bell-spec =
     byte-requires-3
     slice-write-row-5
     slice-write-row-6
+    slice-write-row-7
     same-length
     returns)

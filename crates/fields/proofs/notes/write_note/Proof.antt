@@ -9,7 +9,7 @@ use Rattle.format.specs.Layout.{first}
 use Rattle.format.specs.Reading.{noteIn}
 use Rattle.format.proofs.Digits.{number-one}
 use Rattle.format.proofs.First.{note-key, note-earliest, note-latest, note-deadline}
-use Rattle.rows.specs.internal.NoteRow.{noteRowOn}
+use Rattle.rows.specs.NoteRow.{noteRowOn}
 use Rattle.rows.proofs.NoteRow.{row-words}
 use Rattle.fields.proofs.ListedJobs.{there, listed-few}
 use borrow.Author.Needs.{needs}

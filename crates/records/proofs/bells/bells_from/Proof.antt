@@ -10,8 +10,8 @@ use Rattle.format.specs.Layout.{first, bellsAt, bellBytes}
 use Rattle.format.specs.Outcome.{Outcome, ok}
 use Rattle.format.specs.Phrase.{Bell}
 use Rattle.format.specs.Reading.{bellRecord, bellsFrom}
-use Rattle.rows.specs.internal.BellRow.{bellWords, bellRow}
-use Rattle.rows.specs.internal.PhraseTable.{bellRowsAt}
+use Rattle.rows.specs.BellRow.{bellWords, bellRow}
+use Rattle.rows.specs.PhraseTable.{bellRowsAt}
 use Rattle.records.specs.internal.Answers.{readingOf}
 use Rattle.words.specs.internal.Placed.{placed}
 use Rattle.records.specs.internal.Filling.{listOf, bellsHeld, BellTable, bellPut, HoldsBells}

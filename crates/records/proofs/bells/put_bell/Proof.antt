@@ -7,8 +7,8 @@ use lib.ListN.{length}
 use borrow.Rule.Slice.PartMut.{putMid}
 use Rattle.format.specs.Layout.{first}
 use Rattle.format.specs.Reading.{bellIn}
-use Rattle.rows.specs.internal.BellRow.{bellWords, bellRow}
-use Rattle.rows.specs.internal.PhraseTable.{bellRowsAt}
+use Rattle.rows.specs.BellRow.{bellWords, bellRow}
+use Rattle.rows.specs.PhraseTable.{bellRowsAt}
 use Rattle.words.proofs.Placing.{put-placed}
 use Rattle.rows.proofs.BellRow.{row-length}
 use borrow.Author.Needs.{needs}

@@ -16,8 +16,8 @@ use Rattle.format.specs.Reading.{noteIn}
 use Rattle.format.proofs.Digits.{number-one}
 use Rattle.format.proofs.First.{note-key, note-earliest, note-latest, note-deadline}
 use Rattle.format.proofs.Steps.{no-bell, bad-times, bad-listed, right}
-use Rattle.rows.specs.internal.NoteRow.{noteWords, noteRowOn}
-use Rattle.rows.specs.internal.PhraseTable.{noteRowsAt}
+use Rattle.rows.specs.NoteRow.{noteWords, noteRowOn}
+use Rattle.rows.specs.PhraseTable.{noteRowsAt}
 use Rattle.fields.proofs.ListedJobs.{there}
 use Rattle.records.specs.internal.Answers.{foundOf}
 use Rattle.records.specs.internal.Filling.{bellsHeld, notePut}

@@ -12,8 +12,8 @@ use Rattle.format.specs.Layout.{first}
 use Rattle.format.specs.Outcome.{Outcome, ok}
 use Rattle.format.specs.Phrase.{Bell, Note}
 use Rattle.format.specs.Reading.{noteRecord}
-use Rattle.rows.specs.internal.NoteRow.{noteWords, noteRow}
-use Rattle.rows.specs.internal.PhraseTable.{noteRowsAt}
+use Rattle.rows.specs.NoteRow.{noteWords, noteRow}
+use Rattle.rows.specs.PhraseTable.{noteRowsAt}
 use Rattle.rows.proofs.NoteRow.{begins-none}
 use Rattle.records.specs.internal.Answers.{readingOf}
 use Rattle.records.specs.internal.Filling.{listOf, bellsHeld, notePut, HoldsBells, HoldsNotes}

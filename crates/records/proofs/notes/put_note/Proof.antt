@@ -8,8 +8,8 @@ use borrow.Rule.Slice.PartMut.{putMid}
 use Rattle.words.proofs.Placing.{put-placed}
 use Rattle.format.specs.Layout.{first}
 use Rattle.format.specs.Reading.{noteIn}
-use Rattle.rows.specs.internal.NoteRow.{noteWords, noteRowOn}
-use Rattle.rows.specs.internal.PhraseTable.{noteRowsAt}
+use Rattle.rows.specs.NoteRow.{noteWords, noteRowOn}
+use Rattle.rows.specs.PhraseTable.{noteRowsAt}
 use Rattle.rows.proofs.NoteRow.{row-length}
 use Rattle.fields.proofs.ListedJobs.{listed-few}
 use borrow.Author.Needs.{needs}

@@ -4,9 +4,9 @@ use mathlib.Core.Path.{_≡_, refl, sym, ap, _∙_}
 use native.Mathlib.Omega.{arith}
 use denote.Ref.{now}
 use borrow.Author.Needs.{needs}
-use Rattle.rows.specs.internal.BellRow.{mostExecutionWord}
-use Rattle.rows.specs.internal.NoteRow.{struckWord}
-use Rattle.rows.specs.internal.PhraseTable.{bellWord, noteWord}
+use Rattle.rows.specs.BellRow.{mostExecutionWord}
+use Rattle.rows.specs.NoteRow.{struckWord}
+use Rattle.rows.specs.internal.Handed.{bellWord, noteWord}
 use Rattle.model.specs.Folds.{sum}
 use Rattle.report.specs.internal.Rows.{holdIn}
 use Rattle.model.proofs.Folds.{sum-next}

@@ -1,0 +1,5 @@
+-- Laws of numbers and fields put into bytes.
+pub mod Halves
+pub mod Fields
+pub mod Listed
+pub mod NoteOfRow

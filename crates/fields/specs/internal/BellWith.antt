@@ -1,0 +1,7 @@
+-- A bell by its fields. Assumes nothing.
+use Prim.Native.Nat.{ℕ}
+use Rattle.format.specs.Phrase.{Bell}
+
+abbrev pub bellWith : ℕ → ℕ → ℕ → ℕ → ℕ → Bell
+bellWith written transposition least most priority =
+    record { written = written; transposition = transposition; leastExecution = least; mostExecution = most; priority = priority }

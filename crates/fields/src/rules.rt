@@ -1,0 +1,87 @@
+// The rules of fields, on numbers that may be wider than the bytes of the file.
+ghost use mathlib.Core.Path.{_≡_};
+ghost use Prim.Native.Nat.{_<_};
+ghost use Rattle.format.specs.Bytes.{within};
+ghost use Rattle.format.specs.Phrase.{transposed};
+ghost use Rattle.format.specs.Rules.{isTransposition, isExecutionRange, bellInRange, areTimes};
+ghost use Rattle.fields.specs.internal.BellWith.{bellWith};
+use model::limits::LATEST_TIME;
+use model::limits::LONGEST_EXECUTION;
+
+const LOWEST_KEY: u32 = 12;
+
+const HIGHEST_KEY: u32 = 119;
+
+const MOST_TRANSPOSED: u32 = 24;
+
+pub fn is_within(low: u32, high: u32, x: u32) -> bool
+    ensures { λ r. ⌜ r ≡ within low high x ⌝ }
+{
+    low <= x && x <= high
+}
+
+// -24 to 24, as a signed byte.
+fn is_transposition(t: u32) -> bool
+    ensures { λ r. ⌜ r ≡ isTransposition t ⌝ }
+{
+    t <= MOST_TRANSPOSED || is_within(256 - MOST_TRANSPOSED, 255, t)
+}
+
+fn is_execution_range(least: u32, most: u32) -> bool
+    ensures { λ r. ⌜ r ≡ isExecutionRange least most ⌝ }
+{
+    if least < 1 {
+        return false;
+    }
+    if most < least {
+        return false;
+    }
+    most <= LONGEST_EXECUTION
+}
+
+// The key that a bell sounds for. The transposition is a signed byte; a sum below zero is no key, and 0 here.
+pub fn transposed(written: u32, transposition: u32) -> u32
+    requires { ⌜ (written < 256) × (transposition < 256) ⌝ }
+    ensures { λ r. ⌜ r ≡ transposed written transposition ⌝ }
+{
+    if transposition < 128 {
+        return written + transposition;
+    }
+    if written + transposition < 256 {
+        return 0;
+    }
+    written + transposition - 256
+}
+
+// Whether every field of a bell is in its range.
+pub fn is_bell(written: u32, transposition: u32, least: u32, most: u32, priority: u32) -> bool
+    ensures { λ r. ⌜ r ≡ bellInRange (bellWith written transposition least most priority) ⌝ }
+{
+    if !is_within(LOWEST_KEY, HIGHEST_KEY, written) {
+        return false;
+    }
+    if !is_transposition(transposition) {
+        return false;
+    }
+    let key = transposed(written, transposition);
+    if !is_within(LOWEST_KEY, HIGHEST_KEY, key) {
+        return false;
+    }
+    if !is_execution_range(least, most) {
+        return false;
+    }
+    priority < 256
+}
+
+// The deadline is free against the releases.
+pub fn are_times(earliest: u32, latest: u32, deadline: u32) -> bool
+    ensures { λ r. ⌜ r ≡ areTimes earliest latest deadline ⌝ }
+{
+    if latest < earliest {
+        return false;
+    }
+    if LATEST_TIME < latest {
+        return false;
+    }
+    deadline <= LATEST_TIME
+}

@@ -1,0 +1,47 @@
+-- Phrases whose fields fit their bytes, and phrases of which one does not. Assumes nothing.
+use mathlib.Core.List.{[], _∷_}
+use native.Mathlib.Omega.{arith}
+use Rattle.format.specs.Layout.{layout, noteLength}
+use Rattle.format.specs.Fits.{All, Fits}
+use Rattle.format.specs.Writing.{body}
+use Rattle.format.specs.examples.Files.{bell, note, phrase, bell0, bell1, note0, phraseP, noted, belled}
+
+-- ---- P fits, and so does a phrase that the rules refuse: out of range, but not too wide
+
+pub p-fits : Fits phraseP
+unfolding layout body All noteLength
+p-fits =
+    record {
+      head = (omega arith, (omega arith, (omega arith, (omega arith, tt))));
+      bells = (
+        (omega arith, (omega arith, (omega arith, (omega arith, (omega arith, tt))))),
+        ((omega arith, (omega arith, (omega arith, (omega arith, (omega arith, tt))))), tt),
+      );
+      count = omega arith;
+      notes = (
+        (omega arith, (omega arith, (omega arith, (omega arith, (omega arith, tt))))),
+        ((omega arith, (omega arith, (omega arith, (omega arith, (omega arith, tt))))), tt),
+      );
+    }
+
+-- ---- a field that is one too wide: the rank and the hold of a bell, the key of a note, the due time, and a wait
+
+pub wide-rank : Fits (belled (bell 60 0 2 2 256 ∷ bell1 ∷ [])) → ⊥
+unfolding All
+wide-rank f = omega (arith, f .bells .0 .1 .1 .1 .1 .0)
+
+pub wide-hold : Fits (belled (bell0 ∷ bell 62 12 4 65536 2 ∷ [])) → ⊥
+unfolding All
+wide-hold f = omega (arith, f .bells .1 .0 .1 .1 .1 .0)
+
+pub wide-key : Fits (noted (note 256 0 5 7 [] ∷ [])) → ⊥
+unfolding All
+wide-key f = omega (arith, f .notes .0 .1 .0)
+
+pub wide-due : Fits (noted (note 60 0 5 4294967296 [] ∷ [])) → ⊥
+unfolding All
+wide-due f = omega (arith, f .notes .0 .1 .1 .1 .1 .0)
+
+pub wide-wait : Fits (noted (note0 ∷ note 60 0 5 7 (256 ∷ []) ∷ [])) → ⊥
+unfolding All layout
+wide-wait f = omega (arith, f .notes .1 .0 .1 .1 .1 .1 .1 .0)

@@ -1,0 +1,106 @@
+-- `notes::ask_notes` meets its contract. Assumes nothing.
+use Prim.Native.Nat.{_+_, _≤_}
+use mathlib.Core.Path.{_≡_, sym, ap, _∙_}
+use mathlib.Core.List.{[]}
+use native.Mathlib.Omega.{arith}
+use lib.ListN.{length, getD, drop}
+use denote.Ref.{now}
+use borrow.Author.Needs.{needs}
+use Rattle.format.specs.Layout.{first, mostBells, mostBytes, noteCountAt}
+use Rattle.format.specs.Phrase.{Phrase}
+use Rattle.format.specs.Rules.{notesRules}
+use Rattle.rows.specs.NoteRow.{noteWords, noteOfRow}
+use Rattle.rows.specs.PhraseTable.{bellCountWord, noteCountWord, noteRowsAt, phraseOf}
+use Rattle.rows.proofs.BellRow.{bells-length}
+use Rattle.rows.proofs.Records.{rows-length}
+use Rattle.rules.specs.internal.Answers.{endOf}
+use Rattle.rules.specs.internal.Asking.{notesEnd, bodyEnd}
+use Rattle.rules.specs.declared.answers.Writing.the-variants.{Refused}
+use Rattle.rules.proofs.Counting.{too-many, few-enough}
+use Rattle.rules.proofs.notes.ask_notes.Statement.{statement}
+use Rattle.rules.proofs.notes.ask_notes.Tie as tie
+
+-- the phrase
+abbrev phrase : tie.Start → Phrase
+phrase s = phraseOf (now (s .args .phrase))
+
+-- its counts are those of the header
+bells-counted : (s : tie.Start) → length (phrase s .bells) ≡ getD (now (s .args .phrase)) bellCountWord 0
+bells-counted s = bells-length (now (s .args .phrase)) (getD (now (s .args .phrase)) bellCountWord 0)
+
+notes-counted : (s : tie.Start) → length (phrase s .notes) ≡ getD (now (s .args .phrase)) noteCountWord 0
+notes-counted s =
+    let t = now (s .args .phrase) in
+    rows-length noteOfRow noteWords (drop noteRowsAt t) (getD t noteCountWord 0)
+
+few : (s : tie.Start) → getD (now (s .args .phrase)) bellCountWord 0 ≤ mostBells
+few s = omega (arith, s .pre .0, bells-counted s)
+
+-- the place of the number of notes
+place : (c : tie.After-note-count-at) → let s = c .before .before .before in c .note-count-at .result ≡ noteCountAt first (length (phrase s .bells))
+place c = let s = c .before .before .before in c .note-count-at .ensures ∙ ap (noteCountAt first) (sym (bells-counted s))
+
+element-copy-out-note-count-at : tie.Need-element-copy-out-note-count-at
+element-copy-out-note-count-at c = search needs
+
+cast-note-count-at : tie.Need-cast-note-count-at
+cast-note-count-at c = omega (arith, few (c .before .before))
+
+note-count-at-requires : tie.Need-note-count-at-requires
+note-count-at-requires c κs = few (c .before .before)
+
+element-copy-out-count : tie.Need-element-copy-out-count
+element-copy-out-count c = search needs
+
+cast-if1 : tie.Need-cast-if1
+cast-if1 c = search needs
+
+returns : tie.Need-returns
+returns c =
+    let d = c .before .before in
+    let s = d .before .before .before in
+    let x = phrase s in
+    let many = too-many (x .bells) (x .notes) (noteCountAt first (length (x .bells))) (omega (arith, notes-counted s, c .if1 .taken)) in
+    ap (Refused 8) (place d) ∙ ap (λ o. endOf o (bodyEnd x)) (sym many)
+
+add-notes-from : tie.Need-add-notes-from
+add-notes-from c =
+    let d = c .before .before .before in
+    omega (arith, d .note-count-at .ensures, few (d .before .before .before))
+
+cast-notes-from : tie.Need-cast-notes-from
+cast-notes-from c = omega (arith, c .before .if1 .left)
+
+notes-from-requires : tie.Need-notes-from-requires
+unfolding mostBytes
+notes-from-requires c κs =
+    let d = c .before .before .before in
+    let s = d .before .before .before in
+    (search needs, c .before .if1 .left, omega (arith, d .note-count-at .ensures, few s), s .pre .1)
+
+returns-2 : tie.Need-returns-2
+returns-2 c =
+    let e = c .before .before in
+    let d = e .before .before in
+    let s = d .before .before .before in
+    let x = phrase s in
+    let at = noteCountAt first (length (x .bells)) in
+    let all = few-enough (x .bells) (x .notes) at (omega (arith, notes-counted s, e .if1 .left)) in
+    c .notes-from .ensures
+    ∙ ap (λ p. endOf (notesRules first (x .bells) (x .notes) (p + 1) []) (notesEnd (p + 1) (x .notes))) (place d)
+    ∙ ap (λ o. endOf o (bodyEnd x)) (sym all)
+
+pub ask-notes-spec : {M : Type 1} → statement M
+ask-notes-spec =
+    tie.close
+    (tie.spec
+    element-copy-out-note-count-at
+    cast-note-count-at
+    note-count-at-requires
+    element-copy-out-count
+    cast-if1
+    returns
+    add-notes-from
+    cast-notes-from
+    notes-from-requires
+    returns-2)

@@ -1,0 +1,3 @@
+-- The rules asked of a phrase in words.
+pub mod examples
+pub mod internal

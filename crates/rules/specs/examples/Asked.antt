@@ -1,0 +1,26 @@
+-- What is answered of what was asked, and where files end. Assumes nothing.
+use mathlib.Core.Path.{_≡_, refl}
+use mathlib.Core.List.{[], _∷_, map}
+use Rattle.format.specs.Bytes.{records}
+use Rattle.format.specs.Outcome.{ok, refused}
+use Rattle.format.specs.Phrase.{Phrase}
+use Rattle.format.specs.Rules.{noteRules}
+use Rattle.format.specs.Writing.{noteFile}
+use Rattle.format.specs.examples.Files.{bell0, bell1, note, note0, phrase, phraseP}
+use Rattle.rules.specs.internal.Answers.{endOf}
+use Rattle.rules.specs.internal.Asking.{noteAsked, bodyEnd}
+use Rattle.rules.specs.declared.answers.Writing.the-variants.{Written, Refused}
+
+-- what passes ends at 50, and refusal 12 at 36 ends nowhere
+pub answers : map (λ o. endOf {A = Phrase} o 50) (ok phraseP ∷ refused 12 36 ∷ []) ≡ Written 50 ∷ Refused 12 36 ∷ []
+answers = refl
+
+-- P ends at 50; a bell without notes at 15; with a note that lists two jobs at 31
+pub ends : map bodyEnd (phraseP ∷ phrase (bell0 ∷ []) [] ∷ phrase (bell0 ∷ []) (note 60 0 5 7 (0 ∷ 1 ∷ []) ∷ []) ∷ []) ≡ 50 ∷ 15 ∷ 31 ∷ []
+unfolding records noteFile
+ends = refl
+
+-- a note that lists five jobs, and has no bell, is told for the five
+pub asked : noteAsked (bell0 ∷ bell1 ∷ []) 5 92 (note 61 0 5 7 (0 ∷ 1 ∷ 2 ∷ 3 ∷ 4 ∷ [])) ∷ noteAsked (bell0 ∷ bell1 ∷ []) 0 22 note0 ∷ [] ≡ refused 9 92 ∷ ok note0 ∷ []
+unfolding noteRules
+asked = refl

@@ -1,0 +1,93 @@
+// The rules of the bells of a phrase in words.
+ghost use mathlib.Core.Path.{_≡_};
+ghost use mathlib.Core.List.{List, [], _∷_, _++_};
+ghost use Prim.Native.Nat.{_≤_, _<_};
+ghost use lib.ListN.{length, drop};
+ghost use Rattle.format.specs.Layout.{first, bellsAt, mostBells};
+ghost use Rattle.format.specs.Phrase.{Bell};
+ghost use Rattle.format.specs.Rules.{highestKey, bellRules, bellsRules, allBells};
+ghost use Rattle.rows.specs.BellRow.{bellWords, bellOfRow, bellsOfRows};
+ghost use Rattle.rows.specs.PhraseTable.{bellRowsAt, phraseWords, phraseOf};
+ghost use Rattle.records.specs.internal.Answers.{readingOf};
+ghost use Rattle.records.specs.declared.answers.Reading.the-variants.{Whole};
+ghost use Rattle.rules.specs.internal.Asking.{Sounded};
+use crate::sounded::is_sounded;
+use fields::layout::BELL_BYTES;
+use fields::layout::BELL_COUNT_AT;
+use fields::layout::BELLS_AT;
+use fields::rules::is_bell;
+use fields::rules::is_within;
+use fields::rules::transposed;
+use model::refusals::DOUBLED_KEY;
+use model::refusals::WRONG_BELL;
+use model::refusals::WRONG_BELL_COUNT;
+use records::answers::Reading;
+use rows::BELL_COUNT;
+use rows::BELL_ROWS;
+use rows::MOST_BELLS;
+use rows::PHRASE_WORDS;
+use rows::bell::BELL_WORDS;
+use rows::bell::LEAST_EXECUTION;
+use rows::bell::MOST_EXECUTION;
+use rows::bell::PRIORITY;
+use rows::bell::TRANSPOSITION;
+use rows::bell::WRITTEN;
+
+// The rules of the bell of a row, whose key is marked if it passes.
+fn ask_bell(row: &[u32], at: usize, sounded: &mut [u8]) -> Reading
+    requires { ⌜ (length (now row) ≡ bellWords) × (highestKey < length (now sounded)) ⌝ }
+    ensures { λ r. ⌜ ((before : List Bell) → Sounded before (now (sounded .entry)) → r ≡ readingOf (bellRules before at (bellOfRow (now (row .entry))))) ⌝ }
+    ensures { λ r. ⌜ (r ≡ Whole → (before : List Bell) → Sounded before (now (sounded .entry))
+        → Sounded (before ++ bellOfRow (now (row .entry)) ∷ []) (now (sounded .exit))) ⌝ }
+{
+    let written = row[WRITTEN];
+    let transposition = row[TRANSPOSITION];
+    if !is_bell(
+        written,
+        transposition,
+        row[LEAST_EXECUTION],
+        row[MOST_EXECUTION],
+        row[PRIORITY],
+    ) {
+        return Reading::Refused(WRONG_BELL, at);
+    }
+    let key = transposed(written, transposition);
+    if is_sounded(sounded, key) {
+        return Reading::Refused(DOUBLED_KEY, at);
+    }
+    sounded[key as usize] = 1;
+    Reading::Whole
+}
+
+// The rules of the first n bells.
+fn bells_from(phrase: &[u32], n: usize, sounded: &mut [u8]) -> Reading
+    requires { ⌜ (phraseWords ≤ length (now phrase)) × (n ≤ mostBells) × (highestKey < length (now sounded)) × Sounded [] (now sounded) ⌝ }
+    ensures { λ r. ⌜ r ≡ readingOf (bellsRules first (bellsOfRows (drop bellRowsAt (now (phrase .entry))) n) (bellsAt first) []) ⌝ }
+    ensures { λ r. ⌜ (r ≡ Whole → Sounded (bellsOfRows (drop bellRowsAt (now (phrase .entry))) n) (now (sounded .exit))) ⌝ }
+{
+    let mut at = BELLS_AT;
+    let mut i = 0;
+    while i < n {
+        let from = BELL_ROWS + i * BELL_WORDS;
+        let answer = ask_bell(&phrase[from..from + BELL_WORDS], at, sounded);
+        let Reading::Whole = answer else {
+            return answer;
+        };
+        at += BELL_BYTES;
+        i += 1;
+    }
+    Reading::Whole
+}
+
+// The rules of the bell count and of the bells.
+pub fn ask_bells(phrase: &[u32; PHRASE_WORDS], sounded: &mut [u8]) -> Reading
+    requires { ⌜ (highestKey < length (now sounded)) × Sounded [] (now sounded) ⌝ }
+    ensures { λ r. ⌜ r ≡ readingOf (allBells first (phraseOf (now (phrase .entry)) .bells)) ⌝ }
+    ensures { λ r. ⌜ (r ≡ Whole → Sounded (phraseOf (now (phrase .entry)) .bells) (now (sounded .exit))) ⌝ }
+{
+    let count = phrase[BELL_COUNT];
+    if !is_within(1, MOST_BELLS as u32, count) {
+        return Reading::Refused(WRONG_BELL_COUNT, BELL_COUNT_AT);
+    }
+    bells_from(phrase, count as usize, sounded)
+}

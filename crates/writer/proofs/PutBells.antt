@@ -1,0 +1,80 @@
+-- The records of the bells of a table, put into bytes one after the other. Assumes nothing.
+use Prim.Native.Nat.{ℕ, _+_, _*_, _≤_, _<_}
+use mathlib.Core.Path.{_≡_, sym, ap, subst, _∙_}
+use mathlib.Core.List.{List}
+use native.Mathlib.Omega.{arith}
+use lib.ListN.{length, getD, take, drop}
+use borrow.Rule.Slice.PartMut.{putMid}
+use Rattle.format.specs.Layout.{first, bellsAt, bellBytes}
+use Rattle.format.specs.Phrase.{Bell}
+use Rattle.format.specs.Jobs.{noBell}
+use Rattle.format.specs.Writing.{bellFile}
+use Rattle.format.proofs.Records.{BellFits}
+use Rattle.format.proofs.Sizes.{bell-size, bells-size}
+use Rattle.rows.specs.BellRow.{bellWords, bellOfRow, bellsOfRows}
+use Rattle.rows.specs.PhraseTable.{bellRowsAt}
+use Rattle.rows.proofs.Records.{rows-length}
+use Rattle.rows.proofs.RowsRead.{bell-lent, all-at}
+use Rattle.writer.specs.internal.Putting.{BellsFit}
+use Rattle.writer.proofs.PutRecords.{place, place-next, place-within, put, put-more}
+
+module _ (t : List ℕ) (n : ℕ) where
+  -- the bells of the first n rows
+  abbrev pub bells : List Bell
+  bells = bellsOfRows (drop bellRowsAt t) n
+
+  -- where the record of bell i begins
+  abbrev pub bellPlace : ℕ → ℕ
+  bellPlace = place (bellFile first) bells (bellsAt first)
+
+  -- There are n of them.
+  pub bells-count : length bells ≡ n
+  bells-count = rows-length bellOfRow bellWords (drop bellRowsAt t) n
+
+  module _ (f : BellsFit bells) (i : ℕ) (h : i < n) where
+    below : i < length bells
+    below = omega (arith, bells-count)
+
+    fits-at : BellFits first (getD bells i noBell)
+    fits-at = all-at (BellFits first) bells f i noBell below
+
+    module _ (m : ℕ) (e : m ≡ bellWords) where
+      -- the bell of the row, as the code lends it
+      abbrev lent : Bell
+      lent = bellOfRow (take m (drop (bellRowsAt + i * bellWords) t))
+
+      same-bell : lent ≡ getD bells i noBell
+      same-bell = ap (λ (k : ℕ). bellOfRow (take k (drop (bellRowsAt + i * bellWords) t))) e ∙ bell-lent t n i h
+
+      -- Its fields fit their bytes.
+      pub bell-fits : BellFits first lent
+      bell-fits = subst (BellFits first) (sym same-bell) fits-at
+
+      -- A part that came back as its record is one record more.
+      pub bell-put : (file : List ℕ) → bellsAt first ≤ length file → (at k : ℕ) → at ≡ bellPlace i → k ≡ bellBytes first → (ws : List ℕ)
+          → ws ≡ bellFile first lent
+          → putMid at k (put (bellFile first) bells (bellsAt first) file i) ws ≡ put (bellFile first) bells (bellsAt first) file (i + 1)
+      bell-put file g at k p q ws r =
+          let same : ws ≡ bellFile first (getD bells i noBell) = r ∙ ap (bellFile first) same-bell in
+          put-more (bellFile first) bells (bellsAt first) file g noBell i below ws same at k p
+          (ap length same ∙ bell-size first (getD bells i noBell) ∙ sym q)
+
+    -- The record of bell i ends where the next one begins.
+    pub bell-next : bellPlace (i + 1) ≡ bellPlace i + bellBytes first
+    bell-next =
+        omega (
+          arith,
+          place-next (bellFile first) bells (bellsAt first) noBell i below,
+          bell-size first (getD bells i noBell),
+        )
+
+    -- It ends before the number of notes.
+    pub bell-within : bellPlace i + bellBytes first ≤ bellsAt first + n * bellBytes first
+    bell-within =
+        omega (
+          arith,
+          place-within (bellFile first) bells (bellsAt first) noBell i below,
+          bell-size first (getD bells i noBell),
+          bells-size first bells,
+          bells-count,
+        )

@@ -1,0 +1,148 @@
+-- `putting::put_bells` meets its contract: the records of the first i bells are in their places. Assumes nothing.
+use Prim.Native.Nat.{_+_, _-_, _*_, _≤_}
+use mathlib.Core.Path.{_≡_, refl, sym, ap, _∙_}
+use native.Mathlib.Omega.{arith}
+use denote.Ref.{now}
+use lib.ListN.{length}
+use borrow.Rule.Slice.PartMut.{putMid, same-len-mid}
+use Rattle.format.specs.Bytes.{records}
+use Rattle.format.specs.Layout.{first, bellsAt, bellBytes}
+use Rattle.format.specs.Writing.{bellFile}
+use Rattle.rows.specs.BellRow.{bellWords}
+use Rattle.rows.specs.PhraseTable.{bellRowsAt}
+use Rattle.writer.proofs.PutRecords.{put, put-none, put-all}
+use Rattle.writer.proofs.PutBells.{bells, bellPlace, bells-count, bell-fits, bell-put, bell-next, bell-within}
+use borrow.Author.Needs.{needs}
+use Rattle.writer.proofs.putting.put_bells.Statement.{statement}
+use Rattle.writer.proofs.putting.put_bells.Tie as tie
+
+abbrev Inv-loop : tie.InvT-loop
+Inv-loop phrase n file₀ at₀ i₀ file at i =
+    (i ≤ n) × (length file ≡ length file₀) × (at ≡ bellPlace phrase n i) × (file ≡ put (bellFile first) (bells phrase n) (bellsAt first) file₀ i)
+
+abbrev μ-loop : tie.MeasureT-loop
+μ-loop phrase n file₀ at₀ i₀ file at i = n - i
+
+room : (c : tie.In-loop Inv-loop μ-loop) → let l = c .before .loop in l .at + bellBytes first ≤ length (l .file)
+room c =
+    let l = c .before in
+    let a = l .before .before .before in
+    omega (arith, l .loop .inv .1, l .loop .inv .2, a .pre .2, bell-within (now (a .args .phrase)) (a .args .n) (a .pre .3) (l .loop .i) (c .loop-test .taken))
+
+loop-holds : tie.Need-loop-holds Inv-loop μ-loop
+unfolding records
+loop-holds c =
+    let a = c .before .before .args in
+    (omega arith, refl, refl, sym (put-none (bellFile first) (bells (now (a .phrase)) (a .n)) (bellsAt first) (now (a .file))))
+
+mul-from : tie.Need-mul-from Inv-loop μ-loop
+mul-from c = omega arith
+
+add-from : tie.Need-add-from Inv-loop μ-loop
+add-from c = omega arith
+
+add-put-bell : tie.Need-add-put-bell Inv-loop μ-loop
+add-put-bell c = omega arith
+
+mul-put-bell : tie.Need-mul-put-bell Inv-loop μ-loop
+mul-put-bell c = omega arith
+
+sub-put-bell : tie.Need-sub-put-bell Inv-loop μ-loop
+sub-put-bell c = omega arith
+
+part-put-bell-start : tie.Need-part-put-bell-start Inv-loop μ-loop
+part-put-bell-start c = omega arith
+
+part-put-bell-end : tie.Need-part-put-bell-end Inv-loop μ-loop
+part-put-bell-end c = omega arith
+
+add-put-bell-2 : tie.Need-add-put-bell-2 Inv-loop μ-loop
+add-put-bell-2 c = omega (arith, room (c .before))
+
+sub-put-bell-2 : tie.Need-sub-put-bell-2 Inv-loop μ-loop
+sub-put-bell-2 c = omega arith
+
+part-put-bell-start-2 : tie.Need-part-put-bell-start-2 Inv-loop μ-loop
+part-put-bell-start-2 c = omega arith
+
+part-put-bell-end-2 : tie.Need-part-put-bell-end-2 Inv-loop μ-loop
+part-put-bell-end-2 c = omega (arith, room (c .before))
+
+put-bell-requires : tie.Need-put-bell-requires Inv-loop μ-loop
+put-bell-requires c κs =
+    let t = c .before .before in
+    let l = t .before in
+    let a = l .before .before .before in
+    let from = bellRowsAt + l .loop .i * bellWords in (
+      search needs,
+      search needs,
+      bell-fits (now (a .args .phrase)) (a .args .n) (a .pre .3) (l .loop .i) (t .loop-test .taken) (from + bellWords - from) (omega arith),
+    )
+
+add-at : tie.Need-add-at Inv-loop μ-loop
+add-at c = omega (arith, room (c .before .before .before .before .before))
+
+add-i : tie.Need-add-i Inv-loop μ-loop
+add-i c = omega arith
+
+loop-less : tie.Need-loop-less Inv-loop μ-loop
+loop-less c = omega arith
+
+loop-again : tie.Need-loop-again Inv-loop μ-loop
+loop-again c =
+    let one = c .before .before in
+    let t = one .before .before .before in
+    let l = t .before in
+    let a = l .before .before .before in
+    let v = l .loop in
+    let f = a .pre .3 in
+    let phrase = now (a .args .phrase) in
+    let n = a .args .n in
+    let h = t .loop-test .taken in
+    let from = bellRowsAt + v .i * bellWords in
+    let m = from + bellWords - from in
+    let k = v .at + bellBytes first - v .at in
+    let ws = one .put-bell .last .1 .0 in (
+      omega arith,
+      same-len-mid (v .at) k (v .file) ws (one .put-bell .kept .1 .0) ∙ v .inv .1,
+      omega (arith, v .inv .2, bell-next phrase n f (v .i) h),
+      ap (λ was. putMid (v .at) k was ws) (v .inv .3)
+          ∙ bell-put phrase n f (v .i) h m (omega arith) (now (a .args .file)) (omega arith) (v .at) k (v .inv .2) (omega arith) ws (one .put-bell .ensures),
+    )
+
+same-length : tie.Need-same-length Inv-loop μ-loop
+same-length c = c .before .loop .inv .1
+
+returns : tie.Need-returns Inv-loop μ-loop
+returns c =
+    let l = c .before in
+    let a = l .before .before .before .args in
+    let bs = bells (now (a .phrase)) (a .n) in
+    let last : length bs ≤ l .loop .i = omega (arith, bells-count (now (a .phrase)) (a .n)) in
+    l .loop .inv .3 ∙ put-all (bellFile first) bs (bellsAt first) (now (a .file)) (l .loop .i) last
+
+pub put-bells-spec : {M : Type 1} → statement M
+put-bells-spec =
+    tie.close
+    (tie.spec
+    Inv-loop
+    μ-loop
+    loop-holds
+    mul-from
+    add-from
+    add-put-bell
+    mul-put-bell
+    sub-put-bell
+    part-put-bell-start
+    part-put-bell-end
+    add-put-bell-2
+    sub-put-bell-2
+    part-put-bell-start-2
+    part-put-bell-end-2
+    put-bell-requires
+    add-at
+    add-i
+    loop-less
+    loop-again
+    same-length
+    returns)

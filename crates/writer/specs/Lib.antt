@@ -1,0 +1,3 @@
+-- What writing answers, and what it asks of what it puts.
+pub mod examples
+pub mod internal

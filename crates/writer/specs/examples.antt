@@ -1,0 +1,2 @@
+-- Worked examples of internal vocabulary.
+pub mod Answers

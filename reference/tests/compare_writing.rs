@@ -1,0 +1,358 @@
+//! The library's reading and writing of phrases against this writer and reader: answers, every byte and word, and all
+//! that stays untouched.
+//!
+//! COMPARE_COUNT phrases to write (20,000) and as many files to read, of COMPARE_SEED (1), from number COMPARE_FIRST (0)
+//! on; and all files that are stored.
+
+#[path = "common/lent.rs"]
+mod lent;
+#[path = "common/settings.rs"]
+mod settings;
+#[path = "common/stored.rs"]
+mod stored;
+#[path = "common/tally.rs"]
+mod tally;
+
+use std::array;
+use std::process::ExitCode;
+
+use lent::Lent;
+use reference::draft::Draft;
+use reference::foreign::{self, HostPhrase};
+use reference::random::{self, EditedCase, Generator, case, edited_case};
+use reference::reading::{Refusal, read};
+use reference::writing::{file_length, write};
+use settings::{in_hexadecimal, named, setting};
+use stored::stored_files;
+use tally::Tally;
+
+/// So many phrases have to meet every kind; fewer are for a look at one difference.
+const ENOUGH: u64 = 5_000;
+/// 96 bells, and 64 notes that list as many strokes as they can.
+const LONGEST: usize = 1_822;
+
+/// What was compared, by its answer.
+#[derive(Default)]
+struct Kinds {
+    written: Tally,
+    /// Refused phrases whose fields fit their bytes, so that the file could be read as well.
+    fitting: Tally,
+    /// Refused phrases that would be sound if their fields were cut to their bytes.
+    only_too_wide: Tally,
+    read: Tally,
+    rooms: [u64; ROOMS.len()],
+    longest: u64,
+}
+
+/// Buffers for phrases that break no rule.
+const ROOMS: [&str; 6] = [
+    "none",
+    "shorter",
+    "one byte short",
+    "exact",
+    "one byte more",
+    "longer",
+];
+
+fn room_kind(room: usize, length: usize) -> usize {
+    match room {
+        0 => 0,
+        _ if room + 1 < length => 1,
+        _ if room < length => 2,
+        _ if room == length => 3,
+        _ if room == length + 1 => 4,
+        _ => 5,
+    }
+}
+
+impl Kinds {
+    fn add(&mut self, case: &EditedCase, expected: &Result<Vec<u8>, Refusal>) {
+        self.written.add(host_number(expected));
+        if let Ok(length) = file_length(&case.phrase) {
+            self.rooms[room_kind(case.room, length)] += 1;
+            self.longest += u64::from(length == LONGEST && expected.is_ok());
+        }
+    }
+
+    fn print(&self) {
+        (self.written).print("random phrases to write that agree, by their answer");
+        (self.fitting).print("of these, refused as their files are");
+        (self.only_too_wide).print("of these, refused only because a field is too wide");
+        let rooms: Vec<String> = (ROOMS.iter().zip(self.rooms))
+            .map(|(name, count)| format!("{name} {count}"))
+            .collect();
+        println!("buffers for sound phrases: {}", rooms.join(", "));
+        println!("written with all bells, notes and waits: {}", self.longest);
+        (self.read).print("random files to read that agree, by their answer");
+    }
+
+    /// Names a kind that was never met.
+    fn demand_all(&self) -> Result<(), String> {
+        let refused = [1, 4, 5, 6, 7, 8, 9, 10, 11, 12];
+        // Times have all bits of their fields, and two bells that sound for one key fit their bytes.
+        let too_wide = [1, 4, 5, 6, 8, 9, 10, 12];
+        demand("written", &self.written, &[0, 16])?;
+        demand("written", &self.written, &refused)?;
+        demand("refused as its file", &self.fitting, &refused)?;
+        demand("only too wide", &self.only_too_wide, &too_wide)?;
+        demand("read", &self.read, &array::from_fn::<_, 13, _>(|n| n))?;
+        match self.rooms.iter().position(|&count| count == 0) {
+            Some(kind) => Err(format!("no buffer was {}", ROOMS[kind])),
+            None if self.longest == 0 => Err("no phrase was the longest".to_string()),
+            None => Ok(()),
+        }
+    }
+}
+
+fn demand(what: &str, tally: &Tally, numbers: &[usize]) -> Result<(), String> {
+    match numbers.iter().find(|&&number| tally.counts[number] == 0) {
+        Some(number) => Err(format!("{what}: {number} was never met")),
+        None => Ok(()),
+    }
+}
+
+/// What phrase_write has to return: the file's length, or the refusal.
+fn host_number(expected: &Result<Vec<u8>, Refusal>) -> u64 {
+    match expected {
+        Ok(file) => file.len() as u64,
+        Err(refusal) => refusal.host_number(),
+    }
+}
+
+/// What phrase_read has to return: 0, or the refusal.
+fn read_number(file: &[u8]) -> u64 {
+    read(file).map_or_else(Refusal::host_number, |_| 0)
+}
+
+fn same_number(expected: u64, found: u64) -> Result<(), String> {
+    let shown = |answer: u64| match answer >> 32 {
+        0 => format!("{answer}"),
+        number => format!("{number} at {}", answer as u32),
+    };
+    same(
+        expected == found,
+        format!("expected {}, found {}", shown(expected), shown(found)),
+    )
+}
+
+fn same(is_same: bool, difference: impl Into<String>) -> Result<(), String> {
+    if is_same {
+        Ok(())
+    } else {
+        Err(difference.into())
+    }
+}
+
+/// A phrase to read into, among words that are not lent. It starts where a word may, but no larger number.
+#[repr(C)]
+#[derive(Clone, PartialEq, Eq)]
+struct Surrounded {
+    before: [u32; 61],
+    phrase: HostPhrase,
+    after: [u32; 64],
+}
+
+impl Surrounded {
+    fn new(random: &mut Generator) -> Box<Surrounded> {
+        let mut content = || random.next_number() as u32;
+        Box::new(Surrounded {
+            before: array::from_fn(|_| content()),
+            phrase: HostPhrase::filled(&mut content),
+            after: array::from_fn(|_| content()),
+        })
+    }
+}
+
+/// phrase_write into a buffer of so many bytes: its answer, the bytes there and beyond, and the phrase itself.
+fn compare_write(
+    phrase: &HostPhrase,
+    room: usize,
+    expected: &Result<Vec<u8>, Refusal>,
+    random: &mut Generator,
+) -> Result<(), String> {
+    let mut lent = Lent::new(room, || random.next_number() as u8);
+    let mut lent_phrase = phrase.clone();
+    let answer = foreign::phrase_write(&mut lent_phrase, lent.slice());
+    same_number(host_number(expected), answer)?;
+    let file = expected.as_deref().unwrap_or_default();
+    let found = &lent.after[..file.len()];
+    same(
+        found == file,
+        format!(
+            "expected {}\nfound    {}",
+            in_hexadecimal(file),
+            in_hexadecimal(found)
+        ),
+    )?;
+    same(
+        lent.untouched_from(file.len()),
+        format!("a byte from {} on was touched", file.len()),
+    )?;
+    same(lent_phrase == *phrase, "the phrase was changed")
+}
+
+/// phrase_read of a file: its answer, every word of the phrase, and the words around it.
+fn compare_read(file: &[u8], random: &mut Generator) -> Result<HostPhrase, String> {
+    let mut lent = Surrounded::new(random);
+    let mut expected = lent.clone();
+    expected.phrase = match &read(file) {
+        Ok(phrase) => phrase.into(),
+        Err(_) => HostPhrase::zero(),
+    };
+    let answer = foreign::phrase_read(file, &mut lent.phrase);
+    same_number(read_number(file), answer)?;
+    if let Some(difference) = first_difference(&expected.phrase, &lent.phrase) {
+        return Err(difference);
+    }
+    same(*lent == *expected, "a word around the phrase was touched")?;
+    Ok(lent.phrase)
+}
+
+fn first_difference(expected: &HostPhrase, found: &HostPhrase) -> Option<String> {
+    let head = |p: &HostPhrase| [p.version, p.drivers, p.bell_count, p.note_count, p.spare];
+    let (due, seen) = (head(expected), head(found));
+    if due != seen {
+        return Some(format!("head: expected {due:?}, found {seen:?}"));
+    }
+    for (number, (due, seen)) in expected.bells.iter().zip(&found.bells).enumerate() {
+        if due != seen {
+            return Some(format!("bell {number}: expected {due:?}, found {seen:?}"));
+        }
+    }
+    for (number, (due, seen)) in expected.notes.iter().zip(&found.notes).enumerate() {
+        if due != seen {
+            return Some(format!("note {number}: expected {due:?}, found {seen:?}"));
+        }
+    }
+    None
+}
+
+/// A file is read as it should, and what was read is written as the same file.
+fn compare_file(file: &[u8], random: &mut Generator) -> Result<HostPhrase, String> {
+    let phrase = compare_read(file, random).map_err(|found| format!("phrase_read: {found}"))?;
+    if read(file).is_ok() {
+        named("phrase_write of what was read", || {
+            compare_write(&phrase, file.len(), &Ok(file.to_vec()), random)
+        })?;
+    }
+    Ok(phrase)
+}
+
+/// A phrase is written as it should and read back, or refused as its file is.
+fn compare_case(
+    case: &EditedCase,
+    random: &mut Generator,
+    kinds: &mut Kinds,
+) -> Result<(), String> {
+    let EditedCase { phrase, room } = case;
+    let expected = write(phrase, *room);
+    let host = HostPhrase::of(phrase, || derived_or_spare(random));
+    named("phrase_write", || {
+        compare_write(&host, *room, &expected, random)
+    })?;
+    kinds.add(case, &expected);
+    match &expected {
+        Ok(file) => {
+            let back = compare_file(file, random)?;
+            same(back.edited() == *phrase, "read back as another phrase")
+        }
+        Err(Refusal { number: 16, .. }) => Ok(()),
+        Err(refusal) => compare_refused(case, *refusal, random, kinds),
+    }
+}
+
+/// What nobody reads: any number, or one that could be a key or a bell.
+fn derived_or_spare(random: &mut Generator) -> u32 {
+    let limit = random.pick(&[1, 128, 1 << 32]);
+    random.below(limit) as u32
+}
+
+/// The file of a refused phrase is refused alike, by both readers; where there is no such file, the phrase is too wide.
+fn compare_refused(
+    case: &EditedCase,
+    refusal: Refusal,
+    random: &mut Generator,
+    kinds: &mut Kinds,
+) -> Result<(), String> {
+    let Some(draft) = Draft::of(&case.phrase) else {
+        if read(&Draft::cut(&case.phrase).bytes()).is_ok() {
+            kinds.only_too_wide.add(refusal.host_number());
+        }
+        return Ok(());
+    };
+    kinds.fitting.add(refusal.host_number());
+    let file = draft.bytes();
+    same(
+        read(&file) == Err(refusal),
+        "this reader has another answer than this writer",
+    )?;
+    compare_file(&file, random).map(drop)
+}
+
+fn described(EditedCase { phrase, room }: &EditedCase) -> String {
+    format!(
+        "room {room}, version {}, drivers {}, {} bells {:?}, {} notes {:?}",
+        phrase.version,
+        phrase.drivers,
+        phrase.bell_count,
+        phrase.bells(),
+        phrase.note_count,
+        phrase.notes()
+    )
+}
+
+fn compare_random() -> Result<(), String> {
+    let count = setting("COMPARE_COUNT", random::CASES)?;
+    let seed = setting("COMPARE_SEED", random::SEED)?;
+    let first = setting("COMPARE_FIRST", 0)?;
+    if count == 0 {
+        return Err("COMPARE_COUNT is 0: nothing to compare".to_string());
+    }
+    let mut kinds = Kinds::default();
+    for number in first..first + count {
+        let mut random = Generator::of_case(!seed, number);
+        let here = format!("COMPARE_SEED={seed} COMPARE_FIRST={number}");
+
+        let edited = edited_case(seed, number);
+        compare_case(&edited, &mut random, &mut kinds)
+            .map_err(|difference| format!("{here}: {difference}\n{}", described(&edited)))?;
+
+        let file = case(seed, number).file;
+        compare_file(&file, &mut random).map_err(|difference| {
+            format!("{here}: {difference}\nfile {}", in_hexadecimal(&file))
+        })?;
+        kinds.read.add(read_number(&file));
+    }
+    kinds.print();
+    if count < ENOUGH {
+        return Ok(());
+    }
+    kinds.demand_all()
+}
+
+fn compare_stored() -> Result<(), String> {
+    let files = stored_files().map_err(|error| format!("stored files: {error}"))?;
+    let mut random = Generator::new(random::SEED);
+    let mut kinds = Tally::default();
+    for stored in &files {
+        compare_file(&stored.file, &mut random)
+            .map_err(|difference| format!("{}: {difference}", stored.name))?;
+        kinds.add(read_number(&stored.file));
+    }
+    println!(
+        "stored files that agree: {}, of these read and written again: {}",
+        files.len(),
+        kinds.counts[0]
+    );
+    demand("stored", &kinds, &[0])
+}
+
+fn main() -> ExitCode {
+    match compare_stored().and_then(|()| compare_random()) {
+        Ok(()) => ExitCode::SUCCESS,
+        Err(difference) => {
+            println!("compare_writing: FAILED: {difference}");
+            ExitCode::FAILURE
+        }
+    }
+}

@@ -1,0 +1,612 @@
+/*
+ * Calls phrase_read and phrase_write of host/phrase.h on phrases: each word that is read, each byte that is written; each field out of its range or too wide
+ * for its bytes, and two such fields, the earlier of which counts; garbage where phrase_write looks at nothing. Every expected value is written here by hand.
+ * Last, random edits, which have to be written as the bytes say, or refused as phrase_read refuses these bytes. areas.h says how memory is lent.
+ *
+ * Prints one line for each failure (the first twenty) and a count; exit status 0 when nothing failed.
+ */
+#define _DEFAULT_SOURCE
+#define TEST "edits"
+
+#include <limits.h>
+
+#include "phrase.h"
+#include "areas.h"
+#include "files.h"
+
+enum { RANDOM_EDITS = 20000, MOST_ROOM = PHRASE_FILE_BYTES + 100 };
+
+static struct area file_area, phrase_area;
+
+/* ---- Phrases ---- */
+
+static const struct phrase phrase_p = {
+    1, 1, 2, 2, 0,
+    {{60, 0, 2, 2, 1, 0, 60}, {62, 12, 4, 4, 2, 0, 74}},
+    {{60, 0, 5, 7, 0, {0, 0, 0, 0}, 0}, {74, 0, 0, 6, 0, {0, 0, 0, 0}, 1}},
+};
+
+/* Every number of waits, transpositions down and up, and times of three bytes. Bells at 7, 14 and 21, their end at 28, notes at 29, 43, 58, 74, 91, 109. */
+static const struct phrase phrase_q = {
+    1, 3, 3, 6, 0,
+    {{60, 0, 2, 258, 0, 0, 60}, {62, 12, 772, 1286, 254, 0, 74}, {50, 253, 1, 5000, 255, 0, 47}},
+    {{60, 0, 5, 7, 0, {0, 0, 0, 0}, 0},
+     {74, 66051, 263430, 460809, 1, {0, 0, 0, 0}, 1},
+     {47, 0, 3600000, 0, 2, {0, 1, 0, 0}, 2},
+     {60, 1, 2, 3600000, 3, {0, 1, 2, 0}, 0},
+     {74, 3600000, 3600000, 3, 4, {0, 1, 2, 3}, 1},
+     {47, 4, 5, 6, 2, {1, 4, 0, 0}, 2}},
+};
+#define Q                                                                                                                             \
+    "01 00000078 03 03 3C00 0002 0102 00 3E0C 0304 0506 FE 32FD 0001 1388 FF 06 0D 3C 00000000 00000005 00000007"                      \
+    "0E 4A 00010203 00040506 00070809 00 0F 2F 00000000 0036EE80 00000000 00 01 10 3C 00000001 00000002 0036EE80 00 01 02"             \
+    "11 4A 0036EE80 0036EE80 00000003 00 01 02 03 0F 2F 00000004 00000005 00000006 01 04"
+enum { Q_SIZE = 125 };
+
+/* The least and the largest values: keys 12 and 119, written and sounding, transpositions -24 and 24, no notes. */
+static const struct phrase phrase_bounds = {
+    1, 8, 4, 0, 0,
+    {{12, 24, 1, 1, 0, 0, 36}, {119, 232, 5000, 5000, 255, 0, 95}, {36, 232, 1, 5000, 127, 0, 12}, {95, 24, 4999, 5000, 128, 0, 119}},
+    {{0, 0, 0, 0, 0, {0, 0, 0, 0}, 0}},
+};
+#define BOUNDS "01 0000001F 08 04 0C18 0001 0001 00 77E8 1388 1388 FF 24E8 0001 1388 7F 5F18 1387 1388 80 00"
+
+/* The phrase of longest(). */
+static struct phrase longest_phrase(void)
+{
+    struct phrase phrase;
+    uint32_t i, wait;
+    memset(&phrase, 0, sizeof phrase);
+    phrase.version = 1;
+    phrase.drivers = 8;
+    phrase.bell_count = 96;
+    phrase.note_count = 64;
+    for (i = 0; i < 96; i++) {
+        struct phrase_bell bell = {12 + i, 0, 1, 5000, i, 0, 12 + i};
+        phrase.bells[i] = bell;
+    }
+    for (i = 0; i < 64; i++) {
+        struct phrase_note note = {107 - i, 0, 0, 3600000, i < 4 ? i : 4, {0, 0, 0, 0}, 95 - i};
+        for (wait = 0; wait < note.wait_count; wait++)
+            note.waits[wait] = i - note.wait_count + wait;
+        phrase.notes[i] = note;
+    }
+    return phrase;
+}
+
+/* The file of a phrase whose fields fit their bytes, whatever the rules say. */
+static struct file encoded(const struct phrase *phrase)
+{
+    struct file file = begin("an encoded phrase", phrase->drivers, phrase->bell_count);
+    uint32_t i, wait;
+    file.bytes[0] = (uint8_t)phrase->version;
+    for (i = 0; i < phrase->bell_count && i < PHRASE_MOST_BELLS; i++) {
+        const struct phrase_bell *bell = &phrase->bells[i];
+        add_bell(&file, bell->key, bell->least_hold, bell->most_hold, bell->rank);
+        file.bytes[file.size - 6] = (uint8_t)bell->transposition;
+    }
+    add_byte(&file, phrase->note_count);
+    for (i = 0; i < phrase->note_count && i < PHRASE_MOST_NOTES; i++) {
+        const struct phrase_note *note = &phrase->notes[i];
+        add_note(&file, note->key, note->earliest_call, note->latest_call, note->due);
+        file.bytes[file.size - 14] = (uint8_t)(13 + note->wait_count);
+        for (wait = 0; wait < note->wait_count && wait < PHRASE_MOST_WAITS; wait++)
+            add_byte(&file, note->waits[wait]);
+    }
+    finish(&file);
+    return file;
+}
+
+static uint32_t bell_of(const struct phrase *phrase, uint32_t key)
+{
+    uint32_t bell = 0;
+    while (bell < phrase->bell_count && phrase->bells[bell].sounding != key)
+        bell++;
+    return bell;
+}
+
+/* A phrase that keeps the rules, as it is read once it is written: what is derived is right, and all that does not count is 0. */
+static struct phrase as_read(const struct phrase *phrase)
+{
+    struct phrase read;
+    uint32_t i, wait;
+    memset(&read, 0, sizeof read);
+    read.version = phrase->version;
+    read.drivers = phrase->drivers;
+    read.bell_count = phrase->bell_count;
+    read.note_count = phrase->note_count;
+    for (i = 0; i < phrase->bell_count; i++) {
+        read.bells[i] = phrase->bells[i];
+        read.bells[i].spare = 0;
+        read.bells[i].sounding = phrase->bells[i].key + phrase->bells[i].transposition - (phrase->bells[i].transposition < 128 ? 0 : 256);
+    }
+    for (i = 0; i < phrase->note_count; i++) {
+        read.notes[i] = phrase->notes[i];
+        for (wait = phrase->notes[i].wait_count; wait < PHRASE_MOST_WAITS; wait++)
+            read.notes[i].waits[wait] = 0;
+        read.notes[i].bell = bell_of(&read, phrase->notes[i].key);
+    }
+    return read;
+}
+
+/* ---- Trials ---- */
+
+static void describe(const char *call, const char *name, struct setting setting, size_t room)
+{
+    snprintf(trial, sizeof trial, "%s, %s, %s, filling %02X, %lu bytes", call, name, where_names[setting.where], (unsigned)setting.filling,
+             (unsigned long)room);
+}
+
+static uint32_t word_at(const struct phrase *phrase, size_t at)
+{
+    uint32_t word;
+    memcpy(&word, (const uint8_t *)phrase + at, sizeof word);
+    return word;
+}
+
+/* Names the first word that differs. */
+static void expect_phrase(const struct phrase *found, const struct phrase *due)
+{
+    size_t at = 0;
+    char what[32];
+    if (memcmp(found, due, sizeof *due) == 0) {
+        expect(1, "all words");
+        return;
+    }
+    while (word_at(found, at) == word_at(due, at))
+        at += sizeof(uint32_t);
+    snprintf(what, sizeof what, "word %lu", (unsigned long)(at / sizeof(uint32_t)));
+    expect_number(word_at(found, at), word_at(due, at), what);
+}
+
+static void try_read(const struct file *file, struct setting setting, size_t offset, const struct phrase *due)
+{
+    struct phrase *found;
+    describe("phrase_read", file->name, setting, file->size);
+    lend_const(&file_area, file->bytes, file->size, setting, offset);
+    lend(&phrase_area, sizeof(struct phrase), setting, sizeof(uint32_t));
+    found = (struct phrase *)(void *)phrase_area.lent;
+    expect_answer(phrase_read(file_area.lent, file->size, found), 0, 0);
+    expect_phrase(found, due);
+    expect_untouched_from(&phrase_area, sizeof(struct phrase), "a byte before the phrase changed", "a byte past the phrase changed");
+}
+
+/* What phrase_write has to answer; when that is a length, the file. */
+struct result {
+    uint64_t number, place;
+    const struct file *file;
+};
+
+static void try_write(const char *name, const struct phrase *phrase, struct setting setting, size_t offset, size_t room, struct result due)
+{
+    size_t length = due.number == 0 ? (size_t)due.place : 0;
+    uint64_t answer;
+    describe("phrase_write", name, setting, room);
+    lend_const(&phrase_area, phrase, sizeof *phrase, setting, sizeof(uint32_t));
+    lend(&file_area, room, setting, offset);
+    answer = phrase_write((const struct phrase *)(const void *)phrase_area.lent, file_area.lent, room);
+    expect_answer(answer, due.number, due.place);
+    if (due.number == 0)
+        expect(length == due.file->size && memcmp(file_area.lent, due.file->bytes, length) == 0, "the file is another");
+    expect_untouched_from(&file_area, length, "a byte before the file changed", "a byte past the file changed");
+    expect(memcmp(phrase_area.lent, phrase, sizeof *phrase) == 0, "the phrase changed");
+}
+
+/* A phrase and its file, both ways, in rooms that are too small, just enough and more. */
+static void try_both(const struct file *file, const struct phrase *phrase)
+{
+    const size_t enough[] = {file->size, file->size + 1, MOST_ROOM}, small[] = {0, 1, file->size / 2, file->size - 1};
+    struct result written = {0, file->size, file}, too_short = {16, 0, NULL};
+    size_t i;
+    int s;
+    for (s = 0; s < SETTINGS; s++) {
+        struct setting setting = setting_number(s);
+        for (i = 0; i < 8; i++) {
+            try_read(file, setting, i, phrase);
+            try_write(file->name, phrase, setting, i, file->size, written);
+        }
+        for (i = 0; i < sizeof enough / sizeof *enough; i++)
+            try_write(file->name, phrase, setting, 1, enough[i], written);
+        for (i = 0; i < sizeof small / sizeof *small; i++)
+            try_write(file->name, phrase, setting, 1, small[i], too_short);
+    }
+}
+
+static void try_phrases(void)
+{
+    struct file p = from_hex("P", P), q = from_hex("Q", Q), bounds = from_hex("bounds", BOUNDS), most = longest();
+    struct phrase most_phrase = longest_phrase();
+    try_both(&p, &phrase_p);
+    try_both(&q, &phrase_q);
+    try_both(&bounds, &phrase_bounds);
+    try_both(&most, &most_phrase);
+    snprintf(trial, sizeof trial, "the longest file");
+    expect_number(most.size, 1822, "its length");
+}
+
+/* ---- Fields changed in Q ---- */
+
+struct word {
+    const char *name;
+    size_t at;
+    uint32_t value;
+};
+enum { MOST_CHANGED = 3 };
+#define TO(field, value) {#field " = " #value, offsetof(struct phrase, field), value}
+#define HIGH 0x80000000u
+#define ALL 0xFFFFFFFFu
+
+/* Q with these words changed; the answer: number and place, or 0 and the file's length. */
+static const struct change {
+    struct word words[MOST_CHANGED];
+    uint64_t number, place;
+} changes[] = {
+    {{TO(version, 0)}, 1, 0},
+    {{TO(version, 2)}, 1, 0},
+    {{TO(version, 257)}, 1, 0},
+    {{TO(version, HIGH + 1)}, 1, 0},
+    {{TO(drivers, 0)}, 4, 5},
+    {{TO(drivers, 9)}, 4, 5},
+    {{TO(drivers, 257)}, 4, 5},
+    {{TO(drivers, ALL)}, 4, 5},
+    {{TO(drivers, 1)}, 0, Q_SIZE},
+    {{TO(drivers, 8)}, 0, Q_SIZE},
+    {{TO(bell_count, 0)}, 5, 6},
+    {{TO(bell_count, 97)}, 5, 6},
+    {{TO(bell_count, 256 + 3)}, 5, 6},
+    {{TO(bell_count, HIGH + 3)}, 5, 6},
+    {{TO(bell_count, ALL)}, 5, 6},
+    {{TO(bell_count, 4)}, 6, 28},            /* the fourth is all zero */
+    {{TO(bell_count, 2)}, 10, 7 + 14 + 1 + 14 + 15}, /* note 2 strikes the third */
+    {{TO(bell_count, 2), TO(note_count, 2)}, 0, 7 + 14 + 1 + 14 + 15},
+
+    {{TO(bells[0].key, 11)}, 6, 7},
+    {{TO(bells[0].key, 120)}, 6, 7},
+    {{TO(bells[0].key, 0)}, 6, 7},
+    {{TO(bells[0].key, 256 + 60)}, 6, 7},
+    {{TO(bells[1].key, 256 + 62)}, 6, 14},
+    {{TO(bells[1].key, HIGH + 62)}, 6, 14},
+    {{TO(bells[2].key, ALL)}, 6, 21},
+    {{TO(bells[0].transposition, 25)}, 6, 7},
+    {{TO(bells[0].transposition, 231)}, 6, 7}, /* -25 */
+    {{TO(bells[0].transposition, 127)}, 6, 7},
+    {{TO(bells[0].transposition, 128)}, 6, 7},
+    {{TO(bells[0].transposition, 256)}, 6, 7},
+    {{TO(bells[1].transposition, 256 + 12)}, 6, 14},
+    {{TO(bells[2].transposition, 256 + 253)}, 6, 21},
+    {{TO(bells[2].transposition, ALL - 2)}, 6, 21}, /* -3 as an int has it */
+    {{TO(bells[1].key, 108)}, 6, 14},               /* sounds for 120 */
+    {{TO(bells[1].key, 107), TO(note_count, 1)}, 0, 43},
+    {{TO(bells[2].key, 14)}, 6, 21}, /* sounds for 11 */
+    {{TO(bells[2].key, 15), TO(note_count, 2)}, 0, 58},
+    {{TO(bells[0].least_hold, 0)}, 6, 7},
+    {{TO(bells[0].least_hold, 259)}, 6, 7}, /* over the most, 258 */
+    {{TO(bells[0].least_hold, 258)}, 0, Q_SIZE},
+    {{TO(bells[0].least_hold, 65536 + 2)}, 6, 7},
+    {{TO(bells[0].least_hold, ALL)}, 6, 7},
+    {{TO(bells[1].most_hold, 771)}, 6, 14},
+    {{TO(bells[1].most_hold, 5001)}, 6, 14},
+    {{TO(bells[1].most_hold, 65536 + 1286)}, 6, 14},
+    {{TO(bells[1].least_hold, 65536 + 5), TO(bells[1].most_hold, 65536 + 5)}, 6, 14},
+    {{TO(bells[1].least_hold, ALL), TO(bells[1].most_hold, ALL)}, 6, 14},
+    {{TO(bells[2].most_hold, HIGH + 5000)}, 6, 21},
+    {{TO(bells[0].rank, 256)}, 6, 7},
+    {{TO(bells[1].rank, 256 + 1)}, 6, 14},
+    {{TO(bells[2].rank, ALL)}, 6, 21},
+    {{TO(bells[2].rank, 0)}, 0, Q_SIZE},
+    {{TO(bells[1].transposition, 254)}, 7, 14}, /* -2: sounds for 60 */
+    {{TO(bells[2].key, 63)}, 7, 21},            /* sounds for 60 */
+    {{TO(bells[2].key, 77)}, 7, 21},            /* sounds for 74 */
+    {{TO(bells[0].transposition, 14)}, 7, 14},  /* the later of the two is named */
+
+    {{TO(note_count, 65)}, 8, 28},
+    {{TO(note_count, 256 + 6)}, 8, 28},
+    {{TO(note_count, HIGH)}, 8, 28},
+    {{TO(note_count, ALL)}, 8, 28},
+    {{TO(note_count, 7)}, 10, 125}, /* the seventh is all zero */
+    {{TO(note_count, 64)}, 10, 125},
+    {{TO(note_count, 0)}, 0, 29},
+    {{TO(note_count, 5)}, 0, 109},
+    {{TO(notes[0].wait_count, 5)}, 9, 29},
+    {{TO(notes[1].wait_count, 256 + 1)}, 9, 43},
+    {{TO(notes[2].wait_count, HIGH + 2)}, 9, 58},
+    {{TO(notes[4].wait_count, 5)}, 9, 91},
+    {{TO(notes[5].wait_count, ALL)}, 9, 109},
+    {{TO(notes[5].wait_count, ALL - 12)}, 9, 109}, /* 13 more are 0 */
+    {{TO(notes[5].wait_count, 0)}, 0, 123},
+    {{TO(notes[5].wait_count, 1)}, 0, 124},
+    {{TO(notes[0].key, 61)}, 10, 29},
+    {{TO(notes[1].key, 62)}, 10, 43}, /* as written at bell 1, which sounds for 74 */
+    {{TO(notes[0].key, 256 + 60)}, 10, 29},
+    {{TO(notes[2].key, 256 + 47)}, 10, 58},
+    {{TO(notes[3].key, HIGH + 60)}, 10, 74},
+    {{TO(notes[4].key, 0)}, 10, 91},
+    {{TO(notes[5].key, ALL)}, 10, 109},
+    {{TO(notes[5].key, 74)}, 0, Q_SIZE},
+    {{TO(bells[1].transposition, 11)}, 10, 43}, /* sounds for 73 */
+    {{TO(notes[0].earliest_call, 6)}, 11, 29},
+    {{TO(notes[1].earliest_call, 263431)}, 11, 43},
+    {{TO(notes[1].earliest_call, 263430)}, 0, Q_SIZE},
+    {{TO(notes[2].earliest_call, ALL)}, 11, 58},
+    {{TO(notes[2].latest_call, 3600001)}, 11, 58},
+    {{TO(notes[3].latest_call, HIGH + 2)}, 11, 74},
+    {{TO(notes[4].earliest_call, 3600001), TO(notes[4].latest_call, 3600001)}, 11, 91},
+    {{TO(notes[4].earliest_call, ALL), TO(notes[4].latest_call, ALL)}, 11, 91},
+    {{TO(notes[5].due, 3600001)}, 11, 109},
+    {{TO(notes[5].due, 3600000)}, 0, Q_SIZE},
+    {{TO(notes[5].due, 0x01000000)}, 11, 109},
+    {{TO(notes[5].due, ALL)}, 11, 109},
+    {{TO(notes[0].wait_count, 1)}, 12, 29}, /* for itself */
+    {{TO(notes[1].waits[0], 1)}, 12, 43},
+    {{TO(notes[1].waits[0], 256)}, 12, 43},
+    {{TO(notes[1].waits[0], HIGH)}, 12, 43},
+    {{TO(notes[2].waits[1], 0)}, 12, 58},
+    {{TO(notes[2].waits[1], 256 + 1)}, 12, 58},
+    {{TO(notes[3].waits[0], 1)}, 12, 74},
+    {{TO(notes[3].waits[0], 2)}, 12, 74},
+    {{TO(notes[3].wait_count, 4)}, 12, 74}, /* the fourth is 0 */
+    {{TO(notes[4].waits[0], 256)}, 12, 91},
+    {{TO(notes[4].waits[3], 4)}, 12, 91},
+    {{TO(notes[4].waits[3], ALL)}, 12, 91},
+    {{TO(notes[5].waits[1], 5)}, 12, 109},
+    {{TO(notes[5].waits[1], 3)}, 0, Q_SIZE},
+
+    /* Two that are wrong: the file's order, and within a record 6, 7, and 9, 10, 11, 12. */
+    {{TO(version, 2), TO(drivers, 9), TO(bell_count, 0)}, 1, 0},
+    {{TO(drivers, 9), TO(bell_count, 0)}, 4, 5},
+    {{TO(bell_count, 97), TO(bells[0].key, 0)}, 5, 6},
+    {{TO(bells[0].rank, 256), TO(bells[1].key, 0)}, 6, 7},
+    {{TO(bells[1].transposition, 254), TO(bells[2].key, 0)}, 7, 14},
+    {{TO(bells[1].transposition, 254), TO(bells[1].rank, 256)}, 6, 14},
+    {{TO(bells[1].key, 0), TO(bells[2].key, 63)}, 6, 14},
+    {{TO(bells[2].key, 63), TO(note_count, 65)}, 7, 21},
+    {{TO(bells[2].rank, 256), TO(notes[0].wait_count, 5)}, 6, 21},
+    {{TO(note_count, 65), TO(notes[0].wait_count, 5)}, 8, 28},
+    {{TO(notes[1].waits[0], 1), TO(notes[2].wait_count, 5)}, 12, 43},
+    {{TO(notes[1].due, ALL), TO(notes[2].key, 0)}, 11, 43},
+    {{TO(notes[3].wait_count, 5), TO(notes[3].key, 0)}, 9, 74},
+    {{TO(notes[3].wait_count, 5), TO(notes[3].due, ALL)}, 9, 74},
+    {{TO(notes[3].key, 0), TO(notes[3].due, ALL)}, 10, 74},
+    {{TO(notes[3].key, 0), TO(notes[3].waits[0], 2)}, 10, 74},
+    {{TO(notes[3].latest_call, ALL), TO(notes[3].waits[0], 2)}, 11, 74},
+    {{TO(notes[3].key, 0), TO(notes[3].due, ALL), TO(notes[3].waits[0], 2)}, 10, 74},
+
+    /* An earlier note with other waits moves the places of the later ones. */
+    {{TO(notes[4].wait_count, 1), TO(notes[5].key, 0)}, 10, 106},
+    {{TO(notes[1].wait_count, 0), TO(notes[5].due, ALL)}, 11, 108},
+};
+
+static void set_word(struct phrase *phrase, size_t at, uint32_t value)
+{
+    memcpy((uint8_t *)phrase + at, &value, sizeof value);
+}
+
+static void try_change(const struct change *change)
+{
+    struct phrase phrase = phrase_q;
+    struct result due = {change->number, change->place, NULL}, too_short = {16, 0, NULL};
+    struct file file;
+    char name[160] = "Q";
+    int i;
+    for (i = 0; i < MOST_CHANGED && change->words[i].name != NULL; i++) {
+        size_t length = strlen(name);
+        set_word(&phrase, change->words[i].at, change->words[i].value);
+        snprintf(name + length, sizeof name - length, ", %s", change->words[i].name);
+    }
+    if (due.number == 0) {
+        file = encoded(&phrase);
+        due.file = &file;
+    }
+    for (i = 0; i < SETTINGS; i++) {
+        struct setting setting = setting_number(i);
+        try_write(name, &phrase, setting, 3, MOST_ROOM, due);
+        try_write(name, &phrase, setting, 3, due.number == 0 ? (size_t)due.place : 0, due); /* a wrong field comes before too little room */
+        if (due.number == 0)
+            try_write(name, &phrase, setting, 3, (size_t)due.place - 1, too_short);
+    }
+    if (due.number == 0) {
+        struct phrase read = as_read(&phrase);
+        file.name = name;
+        try_read(&file, setting_number(0), 0, &read);
+    }
+}
+
+static void try_changes(void)
+{
+    size_t i;
+    for (i = 0; i < sizeof changes / sizeof *changes; i++)
+        try_change(&changes[i]);
+}
+
+/* ---- What phrase_write does not look at ---- */
+
+/* Fills what is derived or spare, and all past the counts. */
+static struct phrase with_garbage(const struct phrase *phrase, uint32_t garbage)
+{
+    struct phrase dirty;
+    uint32_t i, wait;
+    for (i = 0; i < sizeof dirty / sizeof garbage; i++)
+        set_word(&dirty, i * sizeof garbage, garbage);
+    dirty.version = phrase->version;
+    dirty.drivers = phrase->drivers;
+    dirty.bell_count = phrase->bell_count;
+    dirty.note_count = phrase->note_count;
+    for (i = 0; i < phrase->bell_count; i++) {
+        dirty.bells[i] = phrase->bells[i];
+        dirty.bells[i].spare = garbage;
+        dirty.bells[i].sounding = garbage;
+    }
+    for (i = 0; i < phrase->note_count; i++) {
+        dirty.notes[i] = phrase->notes[i];
+        dirty.notes[i].bell = garbage;
+        for (wait = phrase->notes[i].wait_count; wait < PHRASE_MOST_WAITS; wait++)
+            dirty.notes[i].waits[wait] = garbage;
+    }
+    return dirty;
+}
+
+static void try_garbage(const struct file *file, const struct phrase *phrase)
+{
+    static const uint32_t garbage[] = {1, 60, 74, 0xA5A5A5A5, ALL};
+    struct result due = {0, file->size, file};
+    size_t i;
+    int s;
+    for (i = 0; i < sizeof garbage / sizeof *garbage; i++) {
+        struct phrase dirty = with_garbage(phrase, garbage[i]);
+        for (s = 0; s < SETTINGS; s++)
+            try_write("garbage past what counts", &dirty, setting_number(s), 5, file->size, due);
+    }
+}
+
+/* P in memory that nothing was written to before: valgrind sees an answer that depends on what does not count. */
+static void try_unset(const struct file *p)
+{
+    struct phrase *phrase = malloc(sizeof *phrase);
+    uint8_t file[MOST_FILE];
+    uint32_t i;
+    if (phrase == NULL)
+        stop("memory is short");
+    phrase->version = 1;
+    phrase->drivers = 1;
+    phrase->bell_count = 2;
+    phrase->note_count = 2;
+    for (i = 0; i < 2; i++) {
+        phrase->bells[i].key = phrase_p.bells[i].key;
+        phrase->bells[i].transposition = phrase_p.bells[i].transposition;
+        phrase->bells[i].least_hold = phrase_p.bells[i].least_hold;
+        phrase->bells[i].most_hold = phrase_p.bells[i].most_hold;
+        phrase->bells[i].rank = phrase_p.bells[i].rank;
+        phrase->notes[i].key = phrase_p.notes[i].key;
+        phrase->notes[i].earliest_call = phrase_p.notes[i].earliest_call;
+        phrase->notes[i].latest_call = phrase_p.notes[i].latest_call;
+        phrase->notes[i].due = phrase_p.notes[i].due;
+        phrase->notes[i].wait_count = 0;
+    }
+    snprintf(trial, sizeof trial, "P in a phrase that is not set otherwise");
+    expect_answer(phrase_write(phrase, file, sizeof file), 0, p->size);
+    expect(memcmp(file, p->bytes, p->size) == 0, "the file is another");
+    free(phrase);
+}
+
+static void try_ignored(void)
+{
+    struct file p = from_hex("P", P), q = from_hex("Q", Q), bounds = from_hex("bounds", BOUNDS);
+    try_garbage(&p, &phrase_p);
+    try_garbage(&q, &phrase_q);
+    try_garbage(&bounds, &phrase_bounds);
+    try_unset(&p);
+}
+
+/* ---- Transpositions as numbers ---- */
+
+static void try_transpositions(void)
+{
+    uint32_t byte;
+    int semitones;
+    for (semitones = -400; semitones <= 400; semitones++) {
+        uint32_t due = semitones < -128 || semitones > 127 ? 256 : (uint32_t)((semitones + 256) % 256);
+        snprintf(trial, sizeof trial, "phrase_transposition of %d", semitones);
+        expect_number(phrase_transposition(semitones), due, "the byte");
+        if (due < 256)
+            expect(phrase_semitones(due) == semitones, "it does not come back");
+    }
+    for (byte = 0; byte <= 300; byte++) {
+        int due = byte < 128 ? (int)byte : byte < 256 ? -(int)(256 - byte) : 128;
+        snprintf(trial, sizeof trial, "phrase_semitones of %u", (unsigned)byte);
+        expect(phrase_semitones(byte) == due, "they are others");
+        if (byte < 256)
+            expect_number(phrase_transposition(due), byte, "the byte that comes back");
+    }
+    snprintf(trial, sizeof trial, "far off");
+    expect_number(phrase_transposition(INT_MIN), 256, "phrase_transposition of the least int");
+    expect_number(phrase_transposition(INT_MAX), 256, "phrase_transposition of the largest int");
+    expect(phrase_semitones(HIGH) == 128 && phrase_semitones(ALL) == 128 && phrase_semitones(ALL - 2) == 128, "phrase_semitones of wide numbers");
+}
+
+/* ---- Random edits ---- */
+
+static uint32_t draw(uint32_t bound)
+{
+    static uint64_t state = 101;
+    state = state * UINT64_C(6364136223846793005) + UINT64_C(1442695040888963407);
+    return (uint32_t)(state >> 33) % bound;
+}
+
+/* Sets one field of Q to what fits its bytes. */
+static void edit(struct phrase *phrase)
+{
+    static const uint32_t bytes[] = {0, 1, 2, 3, 4, 5, 11, 12, 24, 25, 47, 60, 74, 119, 120, 128, 231, 232, 254, 255};
+    static const uint32_t numbers[] = {0, 1, 2, 3, 5, 7, 258, 772, 5000, 5001, 65535, 66051, 3600000, 3600001, ALL};
+    uint32_t byte = bytes[draw(sizeof bytes / sizeof *bytes)], number = numbers[draw(sizeof numbers / sizeof *numbers)];
+    struct phrase_bell *bell = &phrase->bells[draw(3)];
+    struct phrase_note *note = &phrase->notes[draw(6)];
+    switch (draw(16)) {
+    case 0: phrase->version = draw(8) == 0 ? byte : 1; break;
+    case 1: phrase->drivers = byte; break;
+    case 2: phrase->bell_count = byte; break;
+    case 3: phrase->note_count = byte; break;
+    case 4: bell->key = byte; break;
+    case 5: bell->transposition = byte; break;
+    case 6: bell->least_hold = number & 0xFFFF; break;
+    case 7: bell->most_hold = number & 0xFFFF; break;
+    case 8: bell->rank = byte; break;
+    case 9: note->key = byte; break;
+    case 10: note->earliest_call = number; break;
+    case 11: note->latest_call = number; break;
+    case 12: note->due = number; break;
+    case 13: note->wait_count = byte < 243 ? byte : 0; break; /* 13 more fit the byte */
+    default: note->waits[draw(4)] = byte; break;
+    }
+}
+
+/* The answer to an edited phrase is that of reading its file. Where that is read, the phrase comes back, and the file is what is written. Gives the number. */
+static uint32_t try_edited(const struct phrase *phrase)
+{
+    struct file file = encoded(phrase);
+    struct phrase read = *phrase, due;
+    uint8_t written[MOST_FILE];
+    uint64_t reading = phrase_read(file.bytes, file.size, &read);
+    uint32_t number = phrase_refusal(reading);
+    memset(&due, 0, sizeof due);
+    if (number == 0)
+        due = as_read(phrase);
+    expect_phrase(&read, &due);
+    expect_answer(phrase_write(phrase, written, sizeof written), number, number == 0 ? file.size : phrase_place(reading));
+    if (number == 0)
+        expect(memcmp(written, file.bytes, file.size) == 0, "the file is another");
+    return number;
+}
+
+/* One edit to three, one after the other. Each number has to come. */
+static void try_random_edits(void)
+{
+    static const uint32_t numbers[] = {0, 1, 4, 5, 6, 7, 8, 9, 10, 11, 12};
+    unsigned long i, found[PHRASE_WAITS + 1] = {0};
+    for (i = 0; i < RANDOM_EDITS; i++) {
+        struct phrase phrase = phrase_q;
+        uint32_t count = 1 + draw(3), number;
+        while (count-- > 0)
+            edit(&phrase);
+        snprintf(trial, sizeof trial, "random edit %lu", i);
+        number = try_edited(&phrase);
+        if (number <= PHRASE_WAITS)
+            found[number]++;
+    }
+    for (i = 0; i < sizeof numbers / sizeof *numbers; i++) {
+        snprintf(trial, sizeof trial, "random edits with number %u", (unsigned)numbers[i]);
+        expect(found[numbers[i]] >= RANDOM_EDITS / 1000, "they are too few");
+    }
+}
+
+int main(void)
+{
+    begin_test();
+    file_area = map_area(MOST_FILE);
+    phrase_area = map_area(sizeof(struct phrase));
+    try_phrases();
+    try_changes();
+    try_ignored();
+    try_transpositions();
+    try_random_edits();
+    return end_test();
+}
