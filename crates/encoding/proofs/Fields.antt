@@ -4,9 +4,9 @@ use mathlib.Core.Path.{_≡_, sym, ap, _∙_}
 use mathlib.Core.List.{List, [], _∷_, _++_, append-nil}
 use native.Mathlib.Nat.{add-zero}
 use native.Mathlib.Omega.{arith}
-use lib.ListN.{length, take, drop, take-append-drop}
+use lib.ListN.{length}
 use Rattle.words.specs.internal.Placed.{placed}
-use Rattle.words.proofs.Placing.{placed-append, placed-whole, length-placed}
+use Rattle.words.proofs.Placing.{placed-nothing, placed-append, placed-whole, length-placed}
 use Rattle.format.specs.Bytes.{digits, total, fieldsFile}
 use Rattle.format.specs.Fits.{FieldsFit}
 use Rattle.format.proofs.Digits.{digits-length}
@@ -17,10 +17,6 @@ abbrev pub puts : List ℕ → ℕ → List ℕ → List ℕ → List ℕ
 puts t at [] vs = t
 puts t at (w ∷ ws) [] = t
 puts t at (w ∷ ws) (v ∷ vs) = puts (placed t at (digits w v)) (at + w) ws vs
-
-placed-nothing : (t : List ℕ) (at : ℕ) → placed t at [] ≡ t
-unfolding placed
-placed-nothing t at = ap (λ (k : ℕ). take at t ++ drop k t) (add-zero at) ∙ take-append-drop at t
 
 -- Fields put one after the other, and fields placed after them, are all placed together.
 pub puts-then : (ws vs : List ℕ) → FieldsFit ws vs → (t : List ℕ) (at : ℕ) → at + total ws ≤ length t → (more others : List ℕ)

@@ -16,3 +16,4 @@ pub mod Refusals
 pub mod Files
 pub mod Jobs
 pub mod Steps
+pub mod Rising

@@ -76,6 +76,12 @@ module _ {A : Type 0} (f : A → List ℕ) (xs : List A) where
   pub records-more : (i : ℕ) (d : A) → i < length xs → records f (take (suc i) xs) ≡ records f (take i xs) ++ f (getD xs i d)
   records-more i d h = ap (records f) (take-suc xs i d h) ∙ records-snoc f (take i xs) (getD xs i d)
 
+  -- It adds its own bytes to theirs.
+  pub records-longer : (i : ℕ) (d : A) → i < length xs → length (records f (take (i + 1) xs)) ≡ length (records f (take i xs)) + length (f (getD xs i d))
+  records-longer i d h =
+      let one : i + 1 ≡ suc i = omega arith in
+      ap (λ (k : ℕ). length (records f (take k xs))) one ∙ ap length (records-more i d h) ∙ length-append (records f (take i xs)) (f (getD xs i d))
+
 records-append : {A : Type 0} (f : A → List ℕ) (xs ys : List A) → length (records f (xs ++ ys)) ≡ length (records f xs) + length (records f ys)
 unfolding records
 records-append f [] ys = omega arith

@@ -1,7 +1,6 @@
 -- Laws of the rules as they are asked.
 pub mod Outcomes
 pub mod Marks
-pub mod Rising
 pub mod Turns
 pub mod Counting
 pub mod NoteAsked

@@ -1,12 +1,12 @@
 -- What is asked of the row of a note is asked of the note. Assumes nothing.
-use Prim.Native.Nat.{ℕ, suc, _+_, _≤_, _<_}
+use Prim.Native.Nat.{ℕ, _+_, _≤_, _<_}
 use mathlib.Core.Path.{_≡_, sym, ap, _∙_}
 use mathlib.Core.Logic.{_⊎_, inl, inr}
 use mathlib.Core.Bool.{true, false}
 use mathlib.Core.List.{List}
 use native.Mathlib.Omega.{arith}
 use lib.Dec.{leb}
-use lib.ListN.{length, getD, take, length-append, length-take}
+use lib.ListN.{length, getD, take, length-take}
 use lib.Seq.{getD-take}
 use borrow.Author.Tests.{leb-true, leb-false}
 use Rattle.model.proofs.Booleans.{cases}
@@ -17,7 +17,7 @@ use Rattle.format.specs.Jobs.{noNote}
 use Rattle.format.specs.Writing.{noteFile}
 use Rattle.format.proofs.Sizes.{note-size}
 use Rattle.rows.specs.NoteRow.{noteWords, listedCountWord, noteOfRow}
-use Rattle.rows.proofs.RowsRead.{note-of-row, records-more}
+use Rattle.rows.proofs.RowsRead.{note-of-row, records-longer}
 use Rattle.rules.specs.internal.Asking.{noteAsked}
 use Rattle.rules.proofs.NoteAsked.{listed-long, crowded}
 
@@ -47,10 +47,4 @@ no-bytes notes = omega arith
 pub more-bytes : (notes : List Note) (i : ℕ) → i < length notes
     → length (records (noteFile first) (take (i + 1) notes))
     ≡ length (records (noteFile first) (take i notes)) + (1 + noteLength first (length (getD notes i noNote .listed)))
-more-bytes notes i h =
-    let one : i + 1 ≡ suc i = omega arith in
-    let n : Note = getD notes i noNote in
-    ap (λ (k : ℕ). length (records (noteFile first) (take k notes))) one
-    ∙ ap length (records-more (noteFile first) notes i noNote h)
-    ∙ length-append (records (noteFile first) (take i notes)) (noteFile first n)
-    ∙ ap (λ (k : ℕ). length (records (noteFile first) (take i notes)) + k) (note-size first n)
+more-bytes notes i h = omega (arith, records-longer (noteFile first) notes i noNote h, note-size first (getD notes i noNote))

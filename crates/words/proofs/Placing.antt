@@ -1,10 +1,10 @@
 -- A list placed over a part of another, a row in a table as well as a text in a buffer. Assumes nothing.
-use native.Mathlib.Nat.{add-assoc}
+use native.Mathlib.Nat.{add-zero, add-assoc}
 use Prim.Native.Nat.{ℕ, _+_, _-_, _≤_}
 use mathlib.Core.Path.{_≡_, sym, ap, _∙_}
-use mathlib.Core.List.{List, _++_, append-nil, append-assoc}
+use mathlib.Core.List.{List, [], _++_, append-nil, append-assoc}
 use native.Mathlib.Omega.{arith}
-use lib.ListN.{length, take, drop, length-append, length-drop, drop-of-length-le}
+use lib.ListN.{length, take, drop, length-append, length-drop, drop-of-length-le, take-append-drop}
 use lib.Seq.{length-take-le, take-at, drop-at, sets, sets-eq, drop-drop, take-all}
 use borrow.Rule.Slice.PartMut.{putMid}
 use Rattle.words.specs.internal.Placed.{placed}
@@ -34,6 +34,11 @@ put-placed t at n row l = rw (drop-drop, l)
 pub sets-placed : (t : List ℕ) (at : ℕ) (ws : List ℕ) → at + length ws ≤ length t → sets t at ws ≡ placed t at ws
 unfolding placed
 sets-placed t at ws h = sets-eq ws t at h ∙ append-assoc (take at t) ws (drop (at + length ws) t)
+
+-- nothing in the place of nothing
+pub placed-nothing : (t : List ℕ) (at : ℕ) → placed t at [] ≡ t
+unfolding placed
+placed-nothing t at = ap (λ (k : ℕ). take at t ++ drop k t) (add-zero at) ∙ take-append-drop at t
 
 -- a row in the place of the whole
 pub placed-whole : (t ws : List ℕ) → length t ≡ length ws → placed t 0 ws ≡ ws

@@ -1,16 +1,15 @@
 -- The records of a list, placed into bytes one after the other. Assumes nothing.
 use Prim.Native.Nat.{ℕ, suc, _+_, _≤_, _<_}
 use mathlib.Core.Path.{_≡_, sym, ap, _∙_}
-use mathlib.Core.List.{List, _++_}
-use native.Mathlib.Nat.{add-zero}
+use mathlib.Core.List.{List}
 use native.Mathlib.Omega.{arith}
-use lib.ListN.{length, getD, take, drop, length-append, take-append-drop}
+use lib.ListN.{length, getD, take}
 use lib.Seq.{take-all}
 use borrow.Rule.Slice.PartMut.{putMid}
 use Rattle.words.specs.internal.Placed.{placed}
-use Rattle.words.proofs.Placing.{put-placed, placed-append}
+use Rattle.words.proofs.Placing.{placed-nothing, put-placed, placed-append}
 use Rattle.format.specs.Bytes.{records}
-use Rattle.rows.proofs.RowsRead.{records-more, records-within}
+use Rattle.rows.proofs.RowsRead.{records-more, records-longer, records-within}
 
 module _ {A : Type 0} (f : A → List ℕ) (xs : List A) (start : ℕ) where
   -- where the record after the first i begins
@@ -20,13 +19,7 @@ module _ {A : Type 0} (f : A → List ℕ) (xs : List A) (start : ℕ) where
   module _ (d : A) (i : ℕ) (h : i < length xs) where
     -- A record ends where the next one begins.
     pub place-next : place (i + 1) ≡ place i + length (f (getD xs i d))
-    place-next =
-        let next : i + 1 ≡ suc i = omega arith in
-        let more : length (records f (take (i + 1) xs)) ≡ length (records f (take i xs)) + length (f (getD xs i d)) =
-        ap (λ (k : ℕ). length (records f (take k xs))) next
-        ∙ ap length (records-more f xs i d h)
-        ∙ length-append (records f (take i xs)) (f (getD xs i d)) in
-        omega (arith, more)
+    place-next = omega (arith, records-longer f xs i d h)
 
     -- It ends before all do.
     pub place-within : place i + length (f (getD xs i d)) ≤ start + length (records f xs)
@@ -39,8 +32,8 @@ module _ {A : Type 0} (f : A → List ℕ) (xs : List A) (start : ℕ) where
 
     -- With none of them the bytes are as they were.
     pub put-none : put 0 ≡ file
-    unfolding placed records
-    put-none = ap (λ (k : ℕ). take start file ++ drop k file) (add-zero start) ∙ take-append-drop start file
+    unfolding records
+    put-none = placed-nothing file start
 
     -- A record that a lent part came back as is one more.
     pub put-more : start ≤ length file → (d : A) (i : ℕ) → i < length xs → (ws : List ℕ) → ws ≡ f (getD xs i d) → (at n : ℕ) → at ≡ place i

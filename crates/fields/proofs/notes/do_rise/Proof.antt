@@ -6,7 +6,8 @@ use denote.Ref.{now}
 use lib.ListN.{drop}
 use Rattle.format.specs.Bytes.{number}
 use Rattle.format.specs.Rules.{rises}
-use Rattle.fields.proofs.ListedJobs.{listedAt, listedIn, sized, listed-count, low-one, high-one, next-one, last-one}
+use Rattle.format.proofs.Rising.{low-one, high-one, next-one, last-one}
+use Rattle.fields.proofs.ListedJobs.{listedAt, listedIn, sized, listed-count, job-less, job-at}
 use Rattle.fields.proofs.notes.do_rise.Statement.{statement}
 use Rattle.fields.proofs.notes.do_rise.Tie as tie
 
@@ -41,13 +42,19 @@ returns : tie.Need-returns Inv-loop μ-loop
 returns c =
     let a = c .before .before .before .before .before .before in
     let v = c .before .before .before .loop in
-    sym (low-one (now (a .args .part)) (a .pre) (v .at) (v .inv .0) (omega arith) (a .args .own) (v .low) (omega arith)) ∙ v .inv .3
+    let p = now (a .args .part) in
+    let less = job-less p (a .pre) (v .at) (v .inv .0) (omega arith) in
+    let job = job-at p (a .pre) (v .at) (v .inv .0) (omega arith) in
+    sym (low-one (listedIn p) (v .at - listedAt) less (a .args .own) (v .low) (omega (arith, job))) ∙ v .inv .3
 
 returns-2 : tie.Need-returns-2 Inv-loop μ-loop
 returns-2 c =
     let a = c .before .before .before .before .before .before .before in
     let v = c .before .before .before .before .loop in
-    sym (high-one (now (a .args .part)) (a .pre) (v .at) (v .inv .0) (omega arith) (a .args .own) (v .low) (omega arith) (omega arith)) ∙ v .inv .3
+    let p = now (a .args .part) in
+    let less = job-less p (a .pre) (v .at) (v .inv .0) (omega arith) in
+    let job = job-at p (a .pre) (v .at) (v .inv .0) (omega arith) in
+    sym (high-one (listedIn p) (v .at - listedAt) less (a .args .own) (v .low) (omega (arith, job)) (omega (arith, job))) ∙ v .inv .3
 
 add-low : tie.Need-add-low Inv-loop μ-loop
 add-low c = omega arith
@@ -61,12 +68,17 @@ loop-less c = omega arith
 loop-again : tie.Need-loop-again Inv-loop μ-loop
 loop-again c =
     let a = c .before .before .before .before .before .before .before in
-    let v = c .before .before .before .before .loop in (
+    let v = c .before .before .before .before .loop in
+    let p = now (a .args .part) in
+    let less = job-less p (a .pre) (v .at) (v .inv .0) (omega arith) in
+    let job = job-at p (a .pre) (v .at) (v .inv .0) (omega arith) in
+    let next : v .at + 1 - listedAt ≡ v .at - listedAt + 1 = omega arith in
+    let read = c .before .before .byte2 .ensures .0 ∙ sym job in (
       omega arith,
       omega arith,
       v .inv .2,
-      ap (λ b. rises (a .args .own) (b + 1) (drop (v .at + 1 - listedAt) (listedIn (now (a .args .part))))) (c .before .before .byte2 .ensures .0)
-          ∙ sym (next-one (now (a .args .part)) (a .pre) (v .at) (v .inv .0) (omega arith) (a .args .own) (v .low) (omega arith) (omega arith)) ∙ v .inv .3,
+      (λ i. rises (a .args .own) (read i + 1) (drop (next i) (listedIn p)))
+          ∙ sym (next-one (listedIn p) (v .at - listedAt) less (a .args .own) (v .low) (omega (arith, job)) (omega (arith, job))) ∙ v .inv .3,
     )
 
 returns-3 : tie.Need-returns-3 Inv-loop μ-loop

@@ -5,7 +5,7 @@ use native.Mathlib.Omega.{arith}
 use denote.Ref.{now}
 use lib.ListN.{length, drop}
 use Rattle.format.specs.Rules.{rises}
-use Rattle.rules.proofs.Rising.{low-one, high-one, next-one, last-one}
+use Rattle.format.proofs.Rising.{low-one, high-one, next-one, last-one}
 use Rattle.rules.proofs.notes.do_rise.Statement.{statement}
 use Rattle.rules.proofs.notes.do_rise.Tie as tie
 
