@@ -1,66 +1,26 @@
--- What the reader hands on, and the rows that are made of it, are what the analysis asks for. Assumes nothing.
+-- The analysis of the rows that are made of a phrase's table is that of the check. Assumes nothing.
 use Prim.Native.Nat.{ℕ}
-use mathlib.Core.Path.{_≡_, sym, ap, _∙_, subst, subst₂}
+use mathlib.Core.Path.{_≡_}
 use mathlib.Core.List.{List}
-use native.Mathlib.Omega.{arith}
-use lib.ListN.{length, getD}
+use lib.ListN.{getD}
 use Rattle.model.specs.Exploration.{analysis, capacity}
-use Rattle.model.specs.Guarantee.{WellFormed}
 use Rattle.format.specs.Outcome.{ok}
-use Rattle.format.specs.Phrase.{Phrase}
-use Rattle.format.specs.Jobs.{jobsOf}
-use Rattle.format.specs.Valid.{Valid}
-use Rattle.format.specs.internal.Analysable.{Analysable}
-use Rattle.format.proofs.Jobs.{analysable}
-use Rattle.rows.specs.PhraseTable.{coresWord, noteCountWord, phraseTable, phraseOf}
+use Rattle.rows.specs.PhraseTable.{coresWord, noteCountWord, phraseOf}
 use Rattle.rows.specs.internal.Handed.{HandedOn}
-use Rattle.rows.proofs.PhraseTable.{few-notes, header-word, phrase-of}
-use Rattle.jobs.specs.internal.JobRow.{jobsOfRows, Setting}
 use Rattle.jobs.specs.internal.JobTable.{jobTable}
-use Rattle.jobs.proofs.JobRow.{jobs-length, phrase-jobs, setting}
+use Rattle.jobset.proofs.Made.{cores-are, jobs-are, jobs-count}
 use Rattle.checking.specs.Checking.{levelWords, usedWords, resultOf, checkedOf}
 use Rattle.checker.specs.internal.Analysed.{analysedOf}
 
 module _ (t : List ℕ) (h : HandedOn t) (rows before : List ℕ) (made : rows ≡ jobTable (phraseOf t) before) (m k : ℕ)
     (cores : m ≡ getD t coresWord 0) (count : k ≡ getD t noteCountWord 0) where
-  abbrev x : Phrase
-  x = phraseOf t
-
-  same : x ≡ h .phrase
-  same = ap phraseOf (h .is) ∙ phrase-of (h .phrase) (h .valid)
-
-  valid : Valid x
-  valid = subst Valid (sym same) (h .valid)
-
-  is : t ≡ phraseTable (ok x)
-  is = h .is ∙ ap (λ (y : Phrase). phraseTable (ok y)) (sym same)
-
-  can : Analysable x
-  can = analysable x valid
-
-  cores-are : m ≡ x .cores
-  cores-are = cores
-
-  count-is : k ≡ length (x .notes)
-  count-is = count ∙ ap (λ (l : List ℕ). getD l noteCountWord 0) is ∙ header-word x valid noteCountWord (omega arith)
-
-  jobs-are : jobsOfRows rows k ≡ jobsOf x
-  jobs-are = ap (jobsOfRows rows) count-is ∙ phrase-jobs x can rows before made
-
-  jobs-count : k ≡ length (jobsOf x)
-  jobs-count = count-is ∙ sym (jobs-length x)
-
-  -- The rows are what the analysis asks for.
-  pub handed : Setting rows k m × WellFormed (jobsOfRows rows k) m
-  handed = (
-    subst₂ (Setting rows) (sym count-is) (sym cores-are) (setting x can rows before made (few-notes x valid)),
-    subst₂ WellFormed (sym jobs-are) (sym cores-are) (can .wellFormed),
-  )
-
   -- The result of the analysis is that of the check.
-  pub result-is : (words : ℕ) → analysedOf rows k m words ≡ checkedOf (ok x) words
-  result-is words = λ n. resultOf (jobs-are n) (analysis (jobs-are n) (cores-are n) (capacity words (cores-are n) (jobs-count n)))
+  pub result-is : (words : ℕ) → analysedOf rows k m words ≡ checkedOf (ok (phraseOf t)) words
+  result-is words = λ n.
+      let js = jobs-are t h rows before made m k cores count n in
+      let c = cores-are t h rows before made m k cores count n in
+      resultOf js (analysis js c (capacity words c (jobs-count t h rows before made m k cores count n)))
 
   -- The analysis uses the words that the check may use.
-  pub used-is : (words : ℕ) → levelWords words m k ≡ usedWords (ok x) words
-  used-is words = λ n. levelWords words (cores-are n) (jobs-count n)
+  pub used-is : (words : ℕ) → levelWords words m k ≡ usedWords (ok (phraseOf t)) words
+  used-is words = λ n. levelWords words (cores-are t h rows before made m k cores count n) (jobs-count t h rows before made m k cores count n)

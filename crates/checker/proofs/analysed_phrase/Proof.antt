@@ -3,7 +3,8 @@ use mathlib.Core.Path.{_∙_}
 use lib.ListN.{length}
 use denote.Ref.{now}
 use borrow.Author.Needs.{needs}
-use Rattle.checker.proofs.Readings.{handed, result-is, used-is}
+use Rattle.jobset.proofs.Made.{handed}
+use Rattle.checker.proofs.Readings.{result-is, used-is}
 use Rattle.checker.proofs.analysed_phrase.Statement.{statement}
 use Rattle.checker.proofs.analysed_phrase.Tie as tie
 
