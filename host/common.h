@@ -75,6 +75,7 @@ static const char *place_name(uint32_t number)
     case PHRASE_TABLE_FULL:
         return "level";
     case PHRASE_LATE:
+    case PHRASE_OUTSIDE:
         return "stroke";
     default:
         return "byte";

@@ -1,24 +1,24 @@
 /*
- * The phrase check, and a phrase read and written, for hosts in C and C++.
+ * The phrase check, a phrase read and written, and a playing worked out, for hosts in C and C++.
  *
- * A phrase file comes in; a verdict, and a text with bounds for each stroke, go out. For editors, a file is read into a struct phrase, and a struct phrase
- * is written as a file. docs/FORMAT.md describes the file and its refusals.
+ * A phrase file comes in; a verdict, and a text with bounds for each stroke, go out. For editors, a file is read into a struct phrase, a struct phrase is
+ * written as a file, and one playing of a phrase is worked out. docs/FORMAT.md describes the file and its refusals.
  *
  *     rt staticlib phrase                                       proves the library and writes target/staticlib/libphrase.a, for x86-64 Linux only
  *     gcc -I host your.c target/staticlib/libphrase.a -o your   links it
  *
  * What holds of every call:
  *
- * - Any file bytes, any table, any phrase and any length of text or file are fine; no call fails, allocates or keeps anything.
- * - file, table, text and phrase must not be NULL, even with length 0, and must not overlap. A table and a phrase start where a uint32_t may start; file and
- *   text may start anywhere. Nothing else may write them while the call runs. An empty C++ vector's data() may be NULL: pass the address of any byte (of any
- *   uint32_t for a table) and length 0 instead.
+ * - Any file bytes, any table, any phrase, any playing and any length of text or file are fine; no call fails, allocates or keeps anything.
+ * - file, table, text, phrase, playing, starts and ends must not be NULL, even with length 0, and must not overlap. A table, a phrase, starts and ends start
+ *   where a uint32_t may start; file, text and playing may start anywhere. Nothing else may write them while the call runs. An empty C++ vector's data() may
+ *   be NULL: pass the address of any byte (of any uint32_t for a table) and length 0 instead.
  * - What is const is only read. Nothing before a buffer's start or past its length is read or written.
- * - There is no state between calls and none is shared, so calls may run at the same time, on different tables, texts, phrases and files to be
- *   written.
+ * - There is no state between calls and none is shared, so calls may run at the same time, on different tables, texts, phrases, starts, ends and files to
+ *   be written.
  * - A stack of 128 KiB suffices. Measured by tests/host/stack.c, as the part of a painted stack that the call changed, and no more for any phrase that was
- *   tried: phrase_check takes 87 KiB, phrase_report 88, with a lent table 23 and 24, phrase_read and phrase_write less than 1. A program that binds
- *   memcpy and memset only when they are first called (-Wl,-z,lazy) needs up to 4 KiB more in that call.
+ *   tried: phrase_check takes 87 KiB, phrase_report 88, with a lent table 23 and 24, phrase_play 10, phrase_read and phrase_write less than 1. A program that
+ *   binds memcpy and memset only when they are first called (-Wl,-z,lazy) needs up to 4 KiB more in that call.
  */
 #ifndef PHRASE_H
 #define PHRASE_H
@@ -41,7 +41,7 @@ extern "C" {
 #define PHRASE_TEXT_BYTES 32768
 
 /*
- * Why a phrase is refused. docs/FORMAT.md says in which order the conditions are tried; the first that is met is the answer.
+ * Why a phrase, or a playing of it, is refused. docs/FORMAT.md says in which order the conditions are tried; the first that is met is the answer.
  *
  * PHRASE_ACCEPTED is proved: every stroke ends by its due time in every run. PHRASE_LATE says that this was not shown, not that some run is late: the bounds
  * are safe, and a run need not reach them. The ends in its line of the text are those of the first late start that was met, not the worst.
@@ -64,7 +64,9 @@ enum phrase_number {
     PHRASE_TABLE_FULL = 13,  /* a level has more states than the table has room for; place: the level */
     PHRASE_LATE = 14,        /* a stroke was not shown to end by its due time;       place: the stroke */
     PHRASE_TEXT_SHORT = 15,  /* the text is longer than its buffer: a report's length is 0. No call answers with it */
-    PHRASE_FILE_SHORT = 16   /* a written file is longer than its buffer;            place: 0. Only phrase_write answers with it */
+    PHRASE_FILE_SHORT = 16,  /* a written file is longer than its buffer;            place: 0. Only phrase_write answers with it */
+    PHRASE_PLAYING = 17,     /* a playing's version, count or length is wrong;       place: 0. Only phrase_play answers with it */
+    PHRASE_OUTSIDE = 18      /* a playing's call or hold lies outside its range;     place: the smallest such stroke. Only phrase_play */
 };
 
 /*
@@ -161,6 +163,21 @@ uint64_t phrase_read(const uint8_t *file, size_t file_len, struct phrase *phrase
  */
 uint64_t phrase_write(const struct phrase *phrase, uint8_t *file, size_t file_len);
 
+/* No playing of a phrase is longer: it has 5 + 6 K bytes. */
+#define PHRASE_PLAYING_BYTES 389
+
+/*
+ * Works out a playing of a file's phrase: what the drivers make of one call moment and one hold for each stroke. No check has to accept the phrase.
+ * The playing, big-endian: a version byte, 1; a four-byte count of the bytes after it; then for each stroke, in the file's order, a call moment of four bytes
+ * and a hold of two. starts and ends have PHRASE_MOST_NOTES words each, every one of which is set: the start and the end of each stroke in the run of the
+ * dispatch rule, and 0 from K on.
+ * Gives 0, or a refusal's number times 4294967296 plus its place; then all words of starts and ends are 0. First come the refusals 1 to 12 of the file, as
+ * phrase_read has them; then 17 at 0, for a playing of under 5 bytes, of another version, with a wrong count or with other than 6 K bytes after it; then 18 at
+ * the smallest stroke whose call or hold lies outside the phrase's range.
+ * Where a check accepts the phrase, with whatever table, these ends lie in the ranges that it reports, and are in time.
+ */
+uint64_t phrase_play(const uint8_t *file, size_t file_len, const uint8_t *playing, size_t playing_len, uint32_t *starts, uint32_t *ends);
+
 /* A transposition in semitones, from the file's byte: -128 to 127. 128 for a wider number, which phrase_write refuses. */
 static inline int phrase_semitones(uint32_t transposition)
 {
@@ -173,13 +190,16 @@ static inline uint32_t phrase_transposition(int semitones)
     return semitones < -128 || semitones > 127 ? 256u : (uint32_t)semitones & 0xFFu;
 }
 
-/* The number in an answer of a check, of phrase_read or of phrase_write, an enum phrase_number; 0 when accepted, read or written. */
+/* The number in an answer of a check, of phrase_read, phrase_write or phrase_play, an enum phrase_number; 0 when accepted, read, written or worked out. */
 static inline uint32_t phrase_refusal(uint64_t answer)
 {
     return (uint32_t)(answer >> 32);
 }
 
-/* The place in such an answer: for 13 the level, for 14 the stroke, else a position in the file. In one of phrase_write without a number, the file's length. */
+/*
+ * The place in such an answer: for 13 the level, for 14 and 18 the stroke, for 17 always 0, else a position in the file. In one of phrase_write without a
+ * number, the file's length.
+ */
 static inline uint32_t phrase_place(uint64_t answer)
 {
     return (uint32_t)(answer & 0xFFFFFFFFu);

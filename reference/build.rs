@@ -4,13 +4,14 @@ use std::env;
 use std::path::Path;
 use std::process::Command;
 
-const CALLS: [&str; 6] = [
+const CALLS: [&str; 7] = [
     "phrase_check",
     "phrase_report",
     "phrase_check_with",
     "phrase_report_with",
     "phrase_read",
     "phrase_write",
+    "phrase_play",
 ];
 
 fn main() {
@@ -35,7 +36,7 @@ fn main() {
     println!("cargo::rustc-link-lib=static=phrase_alone");
 }
 
-/// Makes libphrase_alone.a, in which only the six calls are global: the library's own panic
+/// Makes libphrase_alone.a, in which only the seven calls are global: the library's own panic
 /// handler or standard library must not meet this program's.
 fn isolate(library: &Path, out: &Path) -> Result<(), String> {
     let object = out.join("phrase_alone.o");

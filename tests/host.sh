@@ -1,9 +1,10 @@
 #!/usr/bin/env bash
 # Builds the C side over the proved library and runs it: host/player.c and host/editor.c on files good and bad, tests/host/buffers.c on buffers of all kinds,
-# tests/host/edits.c on phrases, and tests/host/names.c, which provokes every name of the header, all five plainly, with gcc's sanitizers and under valgrind,
-# where these are there; tests/host/threads.c; tests/host/stack.c, which measures the stack; tests/host/growth.c; wrong headers; the C of README.md; and the
-# header from C++ where g++ is. PHRASE_LIB names another library than target/staticlib/libphrase.a, which `rt staticlib phrase` writes; LDLIBS adds to what
-# is linked. What is left out for want of a tool is said, and also appended to the file that LEFT_OUT names, a line each.
+# tests/host/edits.c on phrases, tests/host/playings.c on playings, and tests/host/names.c, which provokes every name of the header, all six plainly, with
+# gcc's sanitizers and under valgrind, where these are there; tests/host/threads.c; tests/host/stack.c, which measures the stack; tests/host/growth.c; wrong
+# headers; the C of README.md; and the header from C++ where g++ is. PHRASE_LIB names another library than target/staticlib/libphrase.a, which
+# `rt staticlib phrase` writes; LDLIBS adds to what is linked. What is left out for want of a tool is said, and also appended to the file that LEFT_OUT names,
+# a line each.
 set -euo pipefail
 cd "$(dirname "$0")/.."
 library=$(realpath -m "${PHRASE_LIB:-target/staticlib/libphrase.a}")
@@ -78,12 +79,28 @@ runs() {
 # ---- Files for the player ----
 
 p=examples/phrase-p.phrase
+etude=examples/etude.phrase
 : >"$folder/empty"
 { head -c 35 "$p"; printf '\x06'; tail -c +37 "$p"; } >"$folder/late"
 { head -c 7 "$p"; printf '\x0B'; tail -c +9 "$p"; } >"$folder/bell"
 head -c 300000 /dev/zero >"$folder/long"
 # A right count, 299995 (000493DB), and bytes that remain.
 { printf '\x01\x00\x04\x93\xDB'; tail -c +6 "$p"; head -c 299950 /dev/zero; } >"$folder/remains"
+
+# Playings of P: stroke 0 called while stroke 1 holds the driver, and at its latest; stroke 1 held too long. And a phrase without strokes, with its playing.
+printf '\x01\0\0\0\x0C\0\0\0\x01\0\x02\0\0\0\0\0\x04' >"$folder/playing"
+printf '\x01\0\0\0\x0C\0\0\0\x05\0\x02\0\0\0\0\0\x04' >"$folder/playing-late"
+printf '\x01\0\0\0\x0C\0\0\0\x05\0\x02\0\0\0\0\0\x05' >"$folder/playing-outside"
+printf '\x01\0\0\0\x0A\x01\x01\x3C\0\0\x01\0\x01\0\0' >"$folder/silence"
+printf '\x01\0\0\0\0' >"$folder/playing-silence"
+
+# made_of FILE: the bytes of a file of hexadecimal digits with remarks.
+made_of() {
+  # shellcheck disable=SC2059
+  printf "$(sed -e 's/#.*//' -e 's/ //g' -e 's/../\\x&/g' "$1" | tr -d '\n')"
+}
+made_of examples/etude-playing.hex >"$folder/etude-playing"
+same 'examples/etude.playing is made of etude-playing.hex' "$folder/etude-playing" examples/etude.playing
 
 # plays HOW STATUS TEXT VERDICT ARGUMENT..: the player, in `player`, ends so. HOW names the way that it is run.
 plays() {
@@ -92,9 +109,11 @@ plays() {
   runs "$how: player $*" "$status" "$text" "$verdict" "${player[@]}" "$@"
 }
 
-# play_all HOW: everything that the player can answer.
+player_usage='usage: player FILE [WORDS] [--play PLAYING]\n'
+
+# play_all HOW: everything that the player can answer without a playing.
 play_all() {
-  local text_p text_etude f=$folder usage='usage: player FILE [WORDS]\n' words
+  local text_p text_etude f=$folder usage=$player_usage words
   text_p=$(cat examples/phrase-p.report)'\n'
   text_etude=$(cat examples/etude.report)'\n'
   plays "$1" 0 "$text_p" "player: $p: accepted\n" "$p"
@@ -118,6 +137,54 @@ play_all() {
   done
 }
 
+# play_playings HOW: playings that are worked out, also where the check refuses the phrase, wherever the option stands.
+play_playings() {
+  local f=$folder text_p text_etude late
+  text_p=$(cat examples/phrase-p.report)'\nstroke 0 start 4 end 6 reported 2..7\nstroke 1 start 0 end 4 reported 4..6\n'
+  text_etude=$(cat examples/etude.report)'\n'$(cat examples/etude.played)'\n'
+  late='stroke 0 start 5 end 7\nstroke 1 start 0 end 4\n'
+  plays "$1" 0 "$text_etude" "player: $etude: accepted\n" "$etude" --play examples/etude.playing
+  plays "$1" 0 "$text_etude" "player: $etude: accepted\n" --play examples/etude.playing "$etude" 131072
+  plays "$1" 0 "$text_p" "player: $p: accepted\n" "$p" --play "$f/playing"
+  plays "$1" 0 "$text_p" "player: $p: accepted\n" "$p" 32 --play "$f/playing"
+  plays "$1" 0 "$text_p" "player: $p: accepted\n" "$p" --play "$f/playing" 32
+  plays "$1" 0 "$text_p" "player: $p: accepted\n" --play "$f/playing" "$p"
+  plays "$1" 0 "$text_p" "player: $p: accepted\n" --play "$f/playing" "$p" 32
+  plays "$1" 0 'accepted strokes 0 states 1 hold 0\n' "player: $f/silence: accepted\n" "$f/silence" --play "$f/playing-silence"
+  plays "$1" 1 "refused 14 stroke 0 ends 6..7\n$late" "player: $f/late: refused, number 14, stroke 0\n" "$f/late" --play "$f/playing-late"
+  plays "$1" 1 "refused 13 level 1\n$late" "player: $p: refused, number 13, level 1\n" "$p" 31 --play "$f/playing-late"
+  plays "$1" 1 "refused 13 level 0\n$late" "player: $p: refused, number 13, level 0\n" "$p" --play "$f/playing-late" 0
+}
+
+# play_refused HOW: playings that are refused, and those of files that are no phrase, of which the phrase's verdict says all.
+play_refused() {
+  local f=$folder text_p accepted="player: $p: accepted\n" late="player: $folder/late: refused, number 14, stroke 0\n"
+  text_p=$(cat examples/phrase-p.report)'\n'
+  plays "$1" 1 "$text_p" "${accepted}player: $f/empty: refused, number 17, byte 0\n" "$p" --play "$f/empty"
+  plays "$1" 1 "$text_p" "${accepted}player: $f/long: refused, number 17, byte 0\n" "$p" --play "$f/long"
+  plays "$1" 1 "$text_p" "${accepted}player: $p: refused, number 17, byte 0\n" "$p" --play "$p"
+  plays "$1" 1 "$text_p" "${accepted}player: examples/etude.playing: refused, number 17, byte 0\n" "$p" --play examples/etude.playing
+  plays "$1" 1 "$text_p" "${accepted}player: $f/playing-outside: refused, number 18, stroke 1\n" "$p" --play "$f/playing-outside"
+  plays "$1" 1 'refused 14 stroke 0 ends 6..7\n' "${late}player: $f/playing-silence: refused, number 17, byte 0\n" "$f/late" --play "$f/playing-silence"
+  plays "$1" 1 'refused 14 stroke 0 ends 6..7\n' "${late}player: $f/playing-outside: refused, number 18, stroke 1\n" "$f/late" --play "$f/playing-outside"
+  plays "$1" 1 'refused 6 at 7\n' "player: $f/bell: refused, number 6, byte 7\n" "$f/bell" --play "$f/playing"
+  plays "$1" 1 'refused 2 at 0\n' "player: $f/empty: refused, number 2, byte 0\n" "$f/empty" --play "$f/empty"
+}
+
+# play_trouble HOW: playings that cannot be read, and wrong usage.
+play_trouble() {
+  local f=$folder options list
+  plays "$1" 2 '' "player: $f/missing: No such file or directory\n" "$p" --play "$f/missing"
+  plays "$1" 2 '' "player: $f: Is a directory\n" "$p" --play "$f"
+  plays "$1" 2 '' 'player: : No such file or directory\n' "$p" --play ''
+  plays "$1" 2 '' "player: $f/missing: No such file or directory\n" "$f/missing" --play "$f/playing"
+  for options in --play "--play $p" "$p --play" "$p 32 --play" "$p --play $p --play $p" "$p --play $p 32 32" "$p 32 --play $p 32" "$p --play $p $p" \
+    "$p --plays $p" "$p --play=$p" "$p $p --play"; do
+    read -ra list <<<"$options"
+    plays "$1" 2 '' "$player_usage" "${list[@]}"
+  done
+}
+
 # ---- Files for the editor, and what it has to make of them ----
 
 # changed FILE [PLACE BYTE]..: the file with some bytes changed, places rising, bytes in hexadecimal.
@@ -132,7 +199,6 @@ changed() {
   done
   tail -c +$((at + 1)) "$file"
 }
-etude=examples/etude.phrase
 # P with a third bell, key 64, which no note strikes.
 { printf '\x01\x00\x00\x00\x34\x01\x03'; head -c 21 "$p" | tail -c 14; printf '\x40\x00\x00\x01\x00\x01\x03'; tail -c +22 "$p"; } >"$folder/third"
 changed "$folder/third" 22 FE >"$folder/third-down"
@@ -266,6 +332,9 @@ edit_trouble() {
 if build 'host/player.c builds' host/player.c "$folder/player" -O2; then
   player=("$folder/player")
   play_all plain
+  play_playings plain
+  play_refused plain
+  play_trouble plain
   plays plain 2 '' 'player: the table: Cannot allocate memory\n' "$p" 4611686018427387903
   status=0
   "$folder/player" "$p" >/dev/full 2>/dev/null || status=$?
@@ -281,7 +350,7 @@ if build 'host/editor.c builds' host/editor.c "$folder/editor" -O2; then
   verdict "editor with a full device as its output: exit status $status, not 2" $((status != 2))
 fi
 counted=0
-for test in buffers edits names; do
+for test in buffers edits playings names; do
   if build "tests/host/$test.c builds" "tests/host/$test.c" "$folder/$test" -O2; then
     passes "$test" "$folder/$test" || true
     found=$(sed -n "s/^$test: \([0-9]*\) checks passed\$/\1/p" "$folder/log")
@@ -339,7 +408,7 @@ while read -r name number; do
   fi
   verdict "a header with $name $((number + 1)) is seen by names.c: exit status $status, not 1" $((status != 1)) "$folder/log"
 done < <(sed -nE 's/^(#define|   ) (PHRASE_[A-Z_]+)( =)? ([0-9]+).*/\2 \4/p' host/phrase.h)
-verdict "the header has $names names with numbers, not 23" $((names != 23))
+verdict "the header has $names names with numbers, not 26" $((names != 26))
 
 echo '#include "phrase.h"' >"$folder/other.c"
 # misfits WHAT: the wrong header does not compile, and it is the struct that is at fault.
@@ -393,6 +462,8 @@ fi
 if passes 'host/Makefile builds' make -s -C host PHRASE_LIB="$library" LDLIBS="${LDLIBS:-}" OUT="$folder/made"; then
   player=("$folder/made/player")
   plays made 0 "$(cat examples/phrase-p.report)\n" "player: $p: accepted\n" "$p"
+  plays made 1 'refused 14 stroke 0 ends 6..7\nstroke 0 start 5 end 7\nstroke 1 start 0 end 4\n' \
+    "player: $folder/late: refused, number 14, stroke 0\n" "$folder/late" --play "$folder/playing-late"
   editor=("$folder/made/editor")
   writes made "$folder/later" 'due times: 2 moved by 150\nbytes: 50, 2 changed\n' "$p" --due 150
   passes 'host/Makefile removes' make -s -C host PHRASE_LIB="$library" OUT="$folder/made" clean || true
@@ -407,6 +478,9 @@ if gcc "${sanitized[@]}" "$folder/none.c" -o "$folder/none" >"$folder/log" 2>&1 
   if build 'host/player.c builds with sanitizers' host/player.c "$folder/player-sanitized" "${sanitized[@]}"; then
     player=("$folder/player-sanitized")
     play_all sanitized
+    play_playings sanitized
+    play_refused sanitized
+    play_trouble sanitized
   fi
   if build 'host/editor.c builds with sanitizers' host/editor.c "$folder/editor-sanitized" "${sanitized[@]}"; then
     editor=("$folder/editor-sanitized")
@@ -414,7 +488,7 @@ if gcc "${sanitized[@]}" "$folder/none.c" -o "$folder/none" >"$folder/log" 2>&1 
     edit_refused sanitized
     edit_trouble sanitized
   fi
-  for test in buffers edits names; do
+  for test in buffers edits playings names; do
     if build "tests/host/$test.c builds with sanitizers" "tests/host/$test.c" "$folder/$test-sanitized" "${sanitized[@]}"; then
       passes "$test with sanitizers" "$folder/$test-sanitized" || true
     fi
@@ -435,6 +509,12 @@ if command -v valgrind >/dev/null; then
     plays valgrind 1 'refused 14 stroke 0 ends 6..7\n' "player: $folder/late: refused, number 14, stroke 0\n" "$folder/late"
     plays valgrind 1 'refused 2 at 0\n' "player: $folder/empty: refused, number 2, byte 0\n" "$folder/empty" 0
     plays valgrind 2 '' "player: $folder: Is a directory\n" "$folder"
+    plays valgrind 0 "$(cat examples/etude.report examples/etude.played)\n" "player: $etude: accepted\n" --play examples/etude.playing "$etude"
+    plays valgrind 0 'accepted strokes 0 states 1 hold 0\n' "player: $folder/silence: accepted\n" "$folder/silence" --play "$folder/playing-silence"
+    plays valgrind 1 'refused 13 level 1\nstroke 0 start 5 end 7\nstroke 1 start 0 end 4\n' "player: $p: refused, number 13, level 1\n" \
+      "$p" 31 --play "$folder/playing-late"
+    plays valgrind 1 "$(cat examples/phrase-p.report)\n" "player: $p: accepted\nplayer: $folder/empty: refused, number 17, byte 0\n" "$p" --play "$folder/empty"
+    plays valgrind 2 '' "player: $folder: Is a directory\n" "$p" --play "$folder"
   fi
   if [ -x "$folder/editor" ]; then
     editor=("${grind[@]}" "$folder/editor")
@@ -443,7 +523,7 @@ if command -v valgrind >/dev/null; then
     refuses valgrind '10, byte 190: note 9: no bell sounds for its key any more' "$etude" --bell 7 --transpose 11
     troubles valgrind "editor: $p: there is no such bell" "$p" --bell 2 --transpose 0
   fi
-  for test in buffers edits names; do
+  for test in buffers edits playings names; do
     if [ -x "$folder/$test" ]; then
       passes "$test under valgrind" "${grind[@]}" "$folder/$test" || true
     fi
@@ -478,14 +558,19 @@ int main()
     const uint8_t due[] = {0x01, 0, 0, 0, 10, 1, 1, 62, 254, 0, 1, 0, 1, 0, 0};
     bool edited = phrase_write(&read, again, 50) == sizeof due && std::equal(due, due + sizeof due, again) && phrase_read(due, sizeof due, &read) == 0
                   && read.bells[0].sounding == 60 && phrase_semitones(read.bells[0].transposition) == -2;
+    const uint8_t playing[] = {0x01, 0, 0, 0, 0};
+    uint32_t starts[PHRASE_MOST_NOTES], ends[PHRASE_MOST_NOTES];
+    bool played = phrase_play(due, sizeof due, playing, sizeof playing, starts, ends) == 0 && std::count(starts, starts + PHRASE_MOST_NOTES, 0u) == 64
+                  && std::count(ends, ends + PHRASE_MOST_NOTES, 0u) == 64
+                  && phrase_refusal(phrase_play(due, sizeof due, playing, 4, starts, ends)) == PHRASE_PLAYING;
     const std::vector<uint8_t> none;
     bool empty = phrase_check(none.empty() ? file : none.data(), none.size()) == PHRASE_COUNT * UINT64_C(4294967296);
-    return refused && same && written && unread && edited && empty ? 0 : 1;
+    return refused && same && written && unread && edited && played && empty ? 0 : 1;
 }
 END
   if passes 'phrase.h builds as C++' g++ -std=c++11 -Wall -Wextra -Wpedantic -Werror -I host "$folder/host.cpp" "$library" "${libraries[@]}" \
     -o "$folder/host"; then
-    passes 'the six calls from C++' "$folder/host" || true
+    passes 'the seven calls from C++' "$folder/host" || true
   fi
 else
   left_out 'the header from C++' 'there is no g++ here'

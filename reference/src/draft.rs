@@ -1,5 +1,6 @@
-//! A phrase file before it is written; every field, counts and lengths too, may be wrong.
+//! A phrase file before it is written; every field, counts and lengths too, may be wrong. Also a playing's bytes.
 
+use crate::dispatch::Scenario;
 use crate::writing::{EditedBell, EditedNote, EditedPhrase};
 
 #[derive(Clone, Debug, PartialEq, Eq)]
@@ -88,7 +89,18 @@ impl Draft {
     }
 }
 
-/// Writes the right count into a file, plus an error that wraps; a file under 5 bytes has none.
+/// A playing of these values, in a phrase's ranges or not; its version and count are right.
+pub fn playing_bytes(scenario: &Scenario) -> Vec<u8> {
+    let mut playing = vec![1, 0, 0, 0, 0];
+    for (&call, &hold) in scenario.calls.iter().zip(&scenario.holds) {
+        playing.extend((call as u32).to_be_bytes());
+        playing.extend((hold as u16).to_be_bytes());
+    }
+    correct_count(&mut playing, 0);
+    playing
+}
+
+/// Writes the right count into a file or a playing, plus an error that wraps; one under 5 bytes has none.
 pub fn correct_count(file: &mut [u8], error: u32) {
     if file.len() >= 5 {
         let count = (file.len() as u32 - 5).wrapping_add(error);

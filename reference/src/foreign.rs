@@ -204,6 +204,14 @@ mod calls {
         ) -> usize;
         pub fn phrase_read(file: *const u8, file_len: usize, phrase: *mut HostPhrase) -> u64;
         pub fn phrase_write(phrase: *const HostPhrase, file: *mut u8, file_len: usize) -> u64;
+        pub fn phrase_play(
+            file: *const u8,
+            file_len: usize,
+            playing: *const u8,
+            playing_len: usize,
+            starts: *mut u32,
+            ends: *mut u32,
+        ) -> u64;
     }
 }
 
@@ -252,4 +260,25 @@ pub fn phrase_read(file: &[u8], phrase: &mut HostPhrase) -> u64 {
 pub fn phrase_write(phrase: &mut HostPhrase, file: &mut [u8]) -> u64 {
     // SAFETY: the phrase is live and laid out as in C; the pair is that of a live slice, lent mutably.
     unsafe { calls::phrase_write(phrase, file.as_mut_ptr(), file.len()) }
+}
+
+/// Works a playing out into lent starts and ends.
+pub fn phrase_play(
+    file: &[u8],
+    playing: &[u8],
+    starts: &mut [u32; MOST_STROKES],
+    ends: &mut [u32; MOST_STROKES],
+) -> u64 {
+    // SAFETY: both pairs are those of live slices, which the call only reads; both arrays have the words that the call
+    // states, and are lent mutably.
+    unsafe {
+        calls::phrase_play(
+            file.as_ptr(),
+            file.len(),
+            playing.as_ptr(),
+            playing.len(),
+            starts.as_mut_ptr(),
+            ends.as_mut_ptr(),
+        )
+    }
 }

@@ -1,12 +1,14 @@
-//! The second checker of carillon phrases, and a second writer of them, made from the documents alone: document 01, and
-//! of document 02 request #101.
+//! The second checker of carillon phrases, and a second writer and player of them, made from the documents alone: document
+//! 01, and of document 02 requests #101 and #102.
 
 pub mod check;
 pub mod dispatch;
 pub mod draft;
+pub mod events;
 pub mod examples;
 #[cfg(feature = "linked")]
 pub mod foreign;
+pub mod playing;
 pub mod printed;
 pub mod random;
 pub mod range;

@@ -1,14 +1,17 @@
-//! Random phrase files from a seed: valid ones of many shapes, damaged ones, and large ones; and random phrases to write.
+//! Random phrase files from a seed: valid ones of many shapes, damaged ones, and large ones; random phrases to write; and
+//! random playings.
 
 mod damaged;
 mod edited;
 mod generator;
 mod large;
+mod played;
 mod valid;
 
 pub use damaged::damaged;
 pub use edited::{EditedCase, edited, longest};
 pub use generator::Generator;
+pub use played::{PlayedCase, played};
 pub use valid::{Shape, TINY, accepted_words, draft, tuned, valid};
 
 use crate::check::HOST_WORDS;
@@ -18,7 +21,7 @@ use crate::walk;
 
 /// What `tests/compare.rs` takes unless told otherwise, and `tests/stream.rs` holds to what it has to
 /// cover: so many cases of this seed, and one of the widest for every two thousand of them. Also what
-/// `tests/compare_writing.rs` takes.
+/// `tests/compare_writing.rs` and `tests/compare_playing.rs` take.
 pub const SEED: u64 = 1;
 pub const CASES: u64 = 20_000;
 pub const CASES_PER_WIDEST: u64 = 2_000;
@@ -45,6 +48,11 @@ pub fn case(seed: u64, number: u64) -> Case {
 /// A phrase to write, by number like the others.
 pub fn edited_case(seed: u64, number: u64) -> EditedCase {
     edited(&mut Generator::of_case(seed, number))
+}
+
+/// A phrase file and a playing, by number like the others.
+pub fn played_case(seed: u64, number: u64) -> PlayedCase {
+    played(&mut Generator::of_case(seed, number))
 }
 
 /// A case with levels of thousands of states, by number like the others.

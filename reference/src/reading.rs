@@ -95,7 +95,7 @@ pub(crate) fn require(met: bool, number: u64, place: usize) -> Result<(), Refusa
     }
 }
 
-fn big_endian(bytes: &[u8]) -> u64 {
+pub(crate) fn big_endian(bytes: &[u8]) -> u64 {
     bytes
         .iter()
         .fold(0, |value, &byte| value << 8 | u64::from(byte))

@@ -4,6 +4,8 @@
 //! COMPARE_COUNT phrases to write (20,000) and as many files to read, of COMPARE_SEED (1), from number COMPARE_FIRST (0)
 //! on; and all files that are stored.
 
+#[path = "common/differences.rs"]
+mod differences;
 #[path = "common/lent.rs"]
 mod lent;
 #[path = "common/settings.rs"]
@@ -16,6 +18,7 @@ mod tally;
 use std::array;
 use std::process::ExitCode;
 
+use differences::{same, same_number};
 use lent::Lent;
 use reference::draft::Draft;
 use reference::foreign::{self, HostPhrase};
@@ -122,25 +125,6 @@ fn host_number(expected: &Result<Vec<u8>, Refusal>) -> u64 {
 /// What phrase_read has to return: 0, or the refusal.
 fn read_number(file: &[u8]) -> u64 {
     read(file).map_or_else(Refusal::host_number, |_| 0)
-}
-
-fn same_number(expected: u64, found: u64) -> Result<(), String> {
-    let shown = |answer: u64| match answer >> 32 {
-        0 => format!("{answer}"),
-        number => format!("{number} at {}", answer as u32),
-    };
-    same(
-        expected == found,
-        format!("expected {}, found {}", shown(expected), shown(found)),
-    )
-}
-
-fn same(is_same: bool, difference: impl Into<String>) -> Result<(), String> {
-    if is_same {
-        Ok(())
-    } else {
-        Err(difference.into())
-    }
 }
 
 /// A phrase to read into, among words that are not lent. It starts where a word may, but no larger number.

@@ -1,5 +1,5 @@
 /*
- * How buffers.c and edits.c lend memory to the calls and see what became of it, and how they count.
+ * How buffers.c, edits.c and playings.c lend memory to the calls and see what became of it, and how they count.
  *
  * Each buffer is lent three times: right after a page that faults when touched, right before one, and between bytes that are compared afterwards. What a call
  * only reads is lent on pages that fault when written. Everything is done with two fillings, each the other's complement, so that no write can hide.

@@ -1,6 +1,7 @@
 /*
- * Calls the six calls of host/phrase.h on files good and bad, with tables, texts and files of odd sizes and at odd places, and holds answers, texts and all
- * that has to stay to what document 01 and request 101 say. Every expected value is written here by hand. areas.h says how memory is lent.
+ * Calls the seven calls of host/phrase.h on files good and bad, with tables, texts and files of odd sizes and at odd places, and holds answers, texts and all
+ * that has to stay to what document 01 and requests 101 and 102 say. phrase_play gets an empty playing here; playings.c has the others. Every expected value
+ * is written here by hand. areas.h says how memory is lent.
  *
  * Prints one line for each failure (the first twenty) and a count; exit status 0 when nothing failed.
  */
@@ -13,7 +14,7 @@
 
 enum { MOST_WORDS = 17000, MOST_TEXT = 40000 };
 
-static struct area file_area, table_area, text_area, phrase_area, written_area;
+static struct area file_area, table_area, text_area, phrase_area, written_area, playing_area, starts_area, ends_area;
 
 /* ---- One trial ---- */
 
@@ -110,22 +111,55 @@ static void try_report(const struct file *file, const struct outcome *outcome, s
     expect_text(phrase_report(file_area.lent, file->size, text_area.lent, text_size), outcome);
 }
 
-/* Reading takes no table: only refusals 1 to 12 concern it. What was read is left in the phrase's area. */
+/* Reading takes no table: only refusals 1 to 12 concern it. */
+static int is_unread(const struct outcome *outcome)
+{
+    return outcome->number >= 1 && outcome->number <= 12;
+}
+
+static size_t zeros_in(const struct area *area)
+{
+    size_t i, zeros = 0;
+    for (i = 0; i < area->lent_size; i++)
+        zeros += area->lent[i] == 0;
+    return zeros;
+}
+
+/* What was read is left in the phrase's area. */
 static void try_read(const struct file *file, const struct outcome *outcome, struct setting setting)
 {
-    int refused = outcome->number >= 1 && outcome->number <= 12;
-    size_t i, zeros = 0;
+    int refused = is_unread(outcome);
     uint64_t answer;
     describe("phrase_read", file, setting);
     lend_file(file, setting);
     lend(&phrase_area, sizeof(struct phrase), setting, sizeof(uint32_t));
     answer = phrase_read(file_area.lent, file->size, (struct phrase *)(void *)phrase_area.lent);
     expect_answer(answer, refused ? outcome->number : 0, refused ? outcome->place : 0);
-    for (i = 0; i < sizeof(struct phrase); i++)
-        zeros += phrase_area.lent[i] == 0;
     if (refused)
-        expect_number(zeros, sizeof(struct phrase), "the number of zero bytes in the phrase");
+        expect_number(zeros_in(&phrase_area), sizeof(struct phrase), "the number of zero bytes in the phrase");
     expect_untouched_from(&phrase_area, sizeof(struct phrase), "a byte before the phrase changed", "a byte past the phrase changed");
+}
+
+static void expect_zero_words(const struct area *area)
+{
+    expect_number(zeros_in(area), PHRASE_MOST_NOTES * sizeof(uint32_t), "the number of zero bytes in an array");
+    expect_untouched_from(area, area->lent_size, "a byte before an array changed", "a byte past an array changed");
+}
+
+/* An empty playing is none of any phrase, even without strokes. */
+static void try_play(const struct file *file, const struct outcome *outcome, struct setting setting)
+{
+    int refused = is_unread(outcome);
+    uint64_t answer;
+    describe("phrase_play", file, setting);
+    lend_file(file, setting);
+    lend_const(&playing_area, "", 0, setting, 1);
+    lend(&starts_area, PHRASE_MOST_NOTES * sizeof(uint32_t), setting, sizeof(uint32_t));
+    lend(&ends_area, PHRASE_MOST_NOTES * sizeof(uint32_t), setting, sizeof(uint32_t));
+    answer = phrase_play(file_area.lent, file->size, playing_area.lent, 0, (uint32_t *)(void *)starts_area.lent, (uint32_t *)(void *)ends_area.lent);
+    expect_answer(answer, refused ? outcome->number : 17, refused ? outcome->place : 0);
+    expect_zero_words(&starts_area);
+    expect_zero_words(&ends_area);
 }
 
 /* What was read from a file is written as that file; where it was refused, all is zero, version too. */
@@ -168,6 +202,7 @@ static void try_in(const struct file *file, const struct outcome *outcome, struc
     if (own) {
         try_check(file, outcome, setting);
         try_read_and_write(file, outcome, setting);
+        try_play(file, outcome, setting);
     }
     for (i = 0; i < sizeof sizes / sizeof *sizes; i++) {
         try_report_with(file, outcome, sizes[i], setting);
@@ -184,8 +219,6 @@ static void try_outcome(const struct file *file, const struct outcome *outcome)
 }
 
 /* ---- What document 01 prints ---- */
-
-#define HOUR "0036EE80"   /* 3600000 */
 
 #define P_TEXT                                               \
     "stroke 0 key C4 bell 0 ends 2..7 response 2..7 due 7\n" \
@@ -222,17 +255,6 @@ static const struct {
     {"row 11", P, 27, 0x06, 11, 22, "refused 11 at 22\n"},
     {"row 12", P_WAITING, UNCHANGED, 12, 36, "refused 12 at 36\n"},
 };
-
-#define M1 "01 0000002D 01 02 3C00 0001 0002 01 3E00 0003 0003 02 02 0D 3C 00000000 00000000" HOUR "0D 3E 00000000 00000000" HOUR
-#define M5                                                                                                         \
-    "01 00000042 02 03 3C00 0002 0002 01 3E00 0005 0005 02 4000 0001 0003 03 03 0D 3C 00000000 00000000" HOUR       \
-    "0D 3E 00000000 00000000" HOUR "0D 40 00000000 00000000" HOUR
-#define M6                                                                                                         \
-    "01 00000043 02 03 3C00 0002 0004 02 3E00 0001 0001 01 4000 0002 0002 03 03 0D 3C 00000000 00000000" HOUR       \
-    "0E 3E 00000000 00000000" HOUR "00 0D 40 00000003 00000003" HOUR
-#define M7 "01 0000002D 01 02 3C00 0001 0001 01 3E00 0001 0001 01 02 0D 3C 00000000 00000000" HOUR "0D 3E 00000000 00000000" HOUR
-#define M8 "01 0000000A 01 01 3C00 0001 0001 00 00"
-#define M8_ON_8 "01 0000000A 08 01 3C00 0001 0001 00 00"
 
 #define M1_TEXT                                                    \
     "stroke 0 key C4 bell 0 ends 1..2 response 1..2 due 3600000\n" \
@@ -400,6 +422,9 @@ int main(void)
     text_area = map_area(MOST_TEXT);
     phrase_area = map_area(sizeof(struct phrase));
     written_area = map_area(PHRASE_FILE_BYTES + 100);
+    playing_area = map_area(1);
+    starts_area = map_area(PHRASE_MOST_NOTES * sizeof(uint32_t));
+    ends_area = map_area(PHRASE_MOST_NOTES * sizeof(uint32_t));
     try_refusals();
     try_walks();
     try_larger_files();

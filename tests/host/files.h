@@ -19,6 +19,20 @@ struct file {
 /* Document 01's phrase P, and P with a note that waits for itself. */
 #define P "01 0000002D 01 02 3C0000020002 01 3E0C00040004 02 02 0D 3C 00000000 00000005 00000007 0D 4A 00000000 00000000 00000006"
 #define P_WAITING "01 0000002E 01 02 3C0000020002 01 3E0C00040004 02 02 0D 3C 00000000 00000005 00000007 0E 4A 00000000 00000000 00000006 01"
+
+/* Its marked phrases M1 and M5 to M8; the last also on eight drivers. */
+#define HOUR "0036EE80" /* 3600000 */
+#define M1 "01 0000002D 01 02 3C00 0001 0002 01 3E00 0003 0003 02 02 0D 3C 00000000 00000000" HOUR "0D 3E 00000000 00000000" HOUR
+#define M5                                                                                                         \
+    "01 00000042 02 03 3C00 0002 0002 01 3E00 0005 0005 02 4000 0001 0003 03 03 0D 3C 00000000 00000000" HOUR       \
+    "0D 3E 00000000 00000000" HOUR "0D 40 00000000 00000000" HOUR
+#define M6                                                                                                         \
+    "01 00000043 02 03 3C00 0002 0004 02 3E00 0001 0001 01 4000 0002 0002 03 03 0D 3C 00000000 00000000" HOUR       \
+    "0E 3E 00000000 00000000" HOUR "00 0D 40 00000003 00000003" HOUR
+#define M7 "01 0000002D 01 02 3C00 0001 0001 01 3E00 0001 0001 01 02 0D 3C 00000000 00000000" HOUR "0D 3E 00000000 00000000" HOUR
+#define M8 "01 0000000A 01 01 3C00 0001 0001 00 00"
+#define M8_ON_8 "01 0000000A 08 01 3C00 0001 0001 00 00"
+
 #define UNCHANGED 0, 0x01 /* place and byte, where one is changed: byte 0 is 01 already */
 
 static inline void add_byte(struct file *file, unsigned byte)

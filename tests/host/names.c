@@ -1,7 +1,7 @@
 /*
- * Provokes every name of host/phrase.h by the calls, and holds it to the number that document 01 or request 101 gives: each refusal by document 01's example
- * of it, the table's words by a phrase that needs all of them, the text's bytes by a long text, the limits of a phrase by one that reaches them, and one that
- * passes them. So a header with another number is seen.
+ * Provokes every name of host/phrase.h by the calls, and holds it to the number that document 01 or request 101 or 102 gives: each refusal by document 01's
+ * example of it, the table's words by a phrase that needs all of them, the text's bytes by a long text, the limits of a phrase and of a playing by one that
+ * reaches them, and one that passes them. So a header with another number is seen.
  *
  * Prints one line for each failure and a count; exit status 0 when nothing failed.
  */
@@ -128,7 +128,38 @@ static void try_file_short(void)
     expect(p.name, "its length", phrase_place(answer), 50);
 }
 
-/* ---- The limits of a phrase ---- */
+/* ---- A playing that is refused ---- */
+
+/* Playings of P: its call at 5 is its latest. */
+static const struct {
+    const char *name;
+    enum phrase_number named;
+    const char *hex;
+    uint32_t number, place;
+} playings[] = {
+    {NAMED(PHRASE_ACCEPTED), "01 0000000C 00000005 0002 00000000 0004", 0, 0},
+    {NAMED(PHRASE_PLAYING), "02 0000000C 00000005 0002 00000000 0004", 17, 0},
+    {NAMED(PHRASE_PLAYING), "01 0000000D 00000005 0002 00000000 0004", 17, 0},
+    {NAMED(PHRASE_PLAYING), "01 00000006 00000005 0002", 17, 0},
+    {NAMED(PHRASE_OUTSIDE), "01 0000000C 00000006 0002 00000000 0004", 18, 0},
+    {NAMED(PHRASE_OUTSIDE), "01 0000000C 00000005 0002 00000000 0003", 18, 1},
+};
+
+static void try_playings(void)
+{
+    struct file p = from_hex("P", P);
+    uint32_t starts[PHRASE_MOST_NOTES], ends[PHRASE_MOST_NOTES];
+    size_t i;
+    for (i = 0; i < sizeof playings / sizeof *playings; i++) {
+        struct file playing = from_hex(playings[i].name, playings[i].hex);
+        uint64_t answer = phrase_play(p.bytes, p.size, playing.bytes, playing.size, starts, ends);
+        expect(playing.name, "the name", playings[i].named, playings[i].number);
+        expect(playing.name, "the refusal", phrase_refusal(answer), playings[i].named);
+        expect(playing.name, "its place", phrase_place(answer), playings[i].place);
+    }
+}
+
+/* ---- The limits of a phrase and of a playing ---- */
 
 /* The number that phrase_write has for a phrase. */
 static uint32_t written_number(const struct phrase *phrase)
@@ -156,6 +187,25 @@ static void try_limits(void)
     more = most;
     more.notes[63].wait_count = PHRASE_MOST_WAITS + 1;
     expect("PHRASE_MOST_WAITS", "the refusal of one more", written_number(&more), PHRASE_NOTE_LENGTH);
+}
+
+/* A playing of a phrase with most notes, all called at 0. One byte less or more is no playing. */
+static void try_playing_bytes(void)
+{
+    const char *about = "PHRASE_PLAYING_BYTES";
+    struct file file = longest(), playing = from_hex("a longest playing", "01 00000180");
+    uint32_t starts[PHRASE_MOST_NOTES], ends[PHRASE_MOST_NOTES];
+    int i;
+    for (i = 0; i < PHRASE_MOST_NOTES; i++) {
+        add_number(&playing, 0, 4);
+        add_number(&playing, 1, 2);
+    }
+    add_byte(&playing, 0);
+    expect(about, "the name", PHRASE_PLAYING_BYTES, 389);
+    expect(about, "the answer to so many", phrase_play(file.bytes, file.size, playing.bytes, PHRASE_PLAYING_BYTES, starts, ends), PHRASE_ACCEPTED);
+    for (i = -1; i <= 1; i += 2)
+        expect(about, "the refusal of one less or more",
+               phrase_refusal(phrase_play(file.bytes, file.size, playing.bytes, (size_t)(PHRASE_PLAYING_BYTES + i), starts, ends)), PHRASE_PLAYING);
 }
 
 /* ---- The two lengths ---- */
@@ -207,7 +257,9 @@ int main(void)
     try_parts();
     try_text_short();
     try_file_short();
+    try_playings();
     try_limits();
+    try_playing_bytes();
     try_table_words();
     try_text_bytes();
     if (failures == 0)

@@ -1,6 +1,6 @@
 /*
- * stack now|lazy FILE..: measures the stack that each of the six calls of host/phrase.h takes, on each FILE, and prints the most of each in KiB.
- * phrase_write gets what phrase_read makes of the FILE.
+ * stack now|lazy FILE..: measures the stack that each of the seven calls of host/phrase.h takes, on each FILE, and prints the most of each in KiB.
+ * phrase_write gets what phrase_read makes of the FILE; phrase_play a playing of it, with the latest calls and the longest holds.
  *
  * A call is made in a process and a thread of its own, on a stack that was painted before; what lies between the caller's frame and the lowest byte that is
  * no longer paint is what the call took. The library needs memcpy and memset from the C library. A program linked with -Wl,-z,now has bound them when it
@@ -25,11 +25,15 @@ enum { KIB = 1024, AREA = 256 * KIB, PAINT = 0xA5, MOST_FILE = 4096 };
 
 static uint8_t file[MOST_FILE], text[PHRASE_TEXT_BYTES], written[PHRASE_FILE_BYTES];
 static size_t file_length;
-static uint32_t table[PHRASE_TABLE_WORDS];
+static uint32_t table[PHRASE_TABLE_WORDS], starts[PHRASE_MOST_NOTES], ends[PHRASE_MOST_NOTES];
 
-/* In memory that the processes share: the FILE's phrase, and what a process measured: bytes of its first call, and of the same call once more. */
+/*
+ * In memory that the processes share: the FILE's phrase, its playing, and what a process measured: bytes of its first call, and of the same call once more.
+ */
 static struct shared {
     struct phrase phrase;
+    uint8_t playing[PHRASE_PLAYING_BYTES];
+    size_t playing_length;
     struct taken {
         size_t first, again;
     } taken;
@@ -65,6 +69,11 @@ static void write_phrase(void)
     phrase_write(&shared->phrase, written, sizeof written);
 }
 
+static void play_playing(void)
+{
+    phrase_play(file, file_length, shared->playing, shared->playing_length, starts, ends);
+}
+
 /*
  * The KiB that host/phrase.h and README.md state: of each call, how many more where it binds, and of all together. phrase_write calls neither memcpy nor
  * memset, so it has nothing to bind.
@@ -81,6 +90,7 @@ static const struct call {
     {"phrase_report_with", report_with, 24, 1},
     {"phrase_read", read_phrase, 1, 1},
     {"phrase_write", write_phrase, 1, 0},
+    {"phrase_play", play_playing, 10, 1},
 };
 enum { CALLS = sizeof calls / sizeof *calls, STATED_BINDING = 4, STATED_ALL = 128 };
 
@@ -140,12 +150,32 @@ static void measure(const struct call *call, const char *name)
     measure_once(call);
 }
 
+static void add_number(uint32_t number, int bytes)
+{
+    while (bytes-- > 0)
+        shared->playing[shared->playing_length++] = (uint8_t)(number >> (8 * bytes));
+}
+
+/* A phrase that was refused is all zero, and its playing without strokes. */
+static void make_playing(const struct phrase *phrase)
+{
+    uint32_t i;
+    shared->playing_length = 0;
+    add_number(1, 1);
+    add_number(6 * phrase->note_count, 4);
+    for (i = 0; i < phrase->note_count; i++) {
+        add_number(phrase->notes[i].latest_call, 4);
+        add_number(phrase->bells[phrase->notes[i].bell].most_hold, 2);
+    }
+}
+
 /* In another process than the one that is measured, so that nothing is bound there. */
 static void prepare(const struct call *call, const char *name)
 {
     (void)call;
     load(name);
     read_phrase();
+    make_playing(&shared->phrase);
 }
 
 /* ---- In the process that started ---- */

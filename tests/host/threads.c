@@ -1,7 +1,7 @@
 /*
- * Makes the six calls of host/phrase.h from several threads at the same time, on phrases with different answers, and holds each answer, text and file to what
- * document 01 and request 101 say. Buffers are the threads' own; only the files are shared, which the calls only read. The threads have as much stack as
- * phrase.h says that every call can do with.
+ * Makes the seven calls of host/phrase.h from several threads at the same time, on phrases with different answers, and holds each answer, text, file and run
+ * to what document 01 and requests 101 and 102 say. Buffers are the threads' own; only the files and the playing are shared, which the calls only read. The
+ * threads have as much stack as phrase.h says that every call can do with.
  *
  * Prints one line for each thread that saw a difference, else a count; exit status 0 when there was none.
  */
@@ -13,7 +13,7 @@
 
 #include "phrase.h"
 
-enum { THREADS = 8, ROUNDS = 400, CALLS = 6, WORDS = 64, ROOM = 200, STACK = 128 * 1024 };
+enum { THREADS = 8, ROUNDS = 4000, CALLS = 7, WORDS = 64, ROOM = 200, STACK = 128 * 1024 };
 
 struct example {
     const char *name;
@@ -39,6 +39,9 @@ static const struct example examples[] = {
     {"no m", {0x01, 0x00, 0x00, 0x00, 0x00}, 5, (UINT64_C(3) << 32) + 5, "refused 3 at 5\n"},
 };
 enum { EXAMPLES = sizeof examples / sizeof *examples };
+
+/* A playing of P: stroke 0 is called while stroke 1 holds the driver. */
+static const uint8_t playing[] = {0x01, 0x00, 0x00, 0x00, 0x0C, 0x00, 0x00, 0x00, 0x01, 0x00, 0x02, 0x00, 0x00, 0x00, 0x00, 0x00, 0x04};
 
 /* What a thread works on, and how many of its calls differed. */
 struct player {
@@ -70,6 +73,18 @@ static int is_written(const struct player *player)
     return answer == example->size && memcmp(file, example->file, example->size) == 0;
 }
 
+/* The playing is worked out, also of the late phrase. Where the file is refused, all is zero. */
+static int is_played(const struct example *example)
+{
+    static const uint32_t none[PHRASE_MOST_NOTES], due_starts[PHRASE_MOST_NOTES] = {4, 0}, due_ends[PHRASE_MOST_NOTES] = {6, 4};
+    uint32_t starts[PHRASE_MOST_NOTES], ends[PHRASE_MOST_NOTES];
+    int refused = reading(example) != 0;
+    memset(starts, 0xA5, sizeof starts);
+    memset(ends, 0xA5, sizeof ends);
+    return phrase_play(example->file, example->size, playing, sizeof playing, starts, ends) == reading(example)
+           && memcmp(starts, refused ? none : due_starts, sizeof starts) == 0 && memcmp(ends, refused ? none : due_ends, sizeof ends) == 0;
+}
+
 static void *play(void *argument)
 {
     struct player *player = argument;
@@ -89,6 +104,7 @@ static void *play(void *argument)
         memset(&player->phrase, 0xA5, sizeof player->phrase);
         player->differences += phrase_read(example->file, example->size, &player->phrase) != reading(example);
         player->differences += !is_written(player);
+        player->differences += !is_played(example);
     }
     return NULL;
 }

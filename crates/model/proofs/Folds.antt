@@ -1,5 +1,5 @@
 -- Laws of the folds over lists and over the numbers below a bound. Assumes nothing.
-use Prim.Native.Nat.{ℕ, zero, suc, _+_, _≤_, _<_, min}
+use Prim.Native.Nat.{ℕ, zero, suc, _+_, _*_, _≤_, _<_, min, max}
 use mathlib.Core.Path.{_≡_, refl, sym, ap, _∙_, subst}
 use mathlib.Core.Logic.{_⊎_, inl, inr, ⊎-elim}
 use mathlib.Core.Bool.{Bool, true, false, cond, true≢false, false≢true}
@@ -12,7 +12,7 @@ use lib.Dec.{leb, eqb}
 use lib.ListN.{getD, length, set, replicate}
 use lib.Seq.{getD-set-same, getD-set-other}
 use borrow.Author.Tests.{leb-true, leb-false, eqb-true, eq-eqb}
-use Rattle.model.specs.Folds.{ind, count, every, member, largest, all, Limit, infinite, finite, smaller, smallest, sum}
+use Rattle.model.specs.Folds.{ind, count, every, member, largest, all, Limit, infinite, finite, smaller, smallest, sum, largestBelow}
 use Rattle.model.proofs.Booleans.{cases, and-left, and-right, and-both, or-left, or-right, or-cases, ind-le}
 
 -- ---- elements
@@ -194,6 +194,18 @@ module _ {A : Type 0} where
   count-none p zero a e = refl
   count-none p (suc n) a e = omega (arith, ap ind e, count-none p n a e)
 
+  -- where all pass the count is the length
+  pub count-all : (p : A → Bool) (l : List A) (d : A) → ((k : ℕ) → k < length l → p (getD l k d) ≡ true) → count p l ≡ length l
+  unfolding count
+  count-all p [] d h = refl
+  count-all p (x ∷ xs) d h = omega (arith, ap ind (h 0 (omega arith)), count-all p xs d (λ k l. h (suc k) (omega arith)))
+
+  -- where none passes the count is 0
+  pub count-zero : (p : A → Bool) (l : List A) (d : A) → ((k : ℕ) → k < length l → p (getD l k d) ≡ false) → count p l ≡ 0
+  unfolding count
+  count-zero p [] d h = refl
+  count-zero p (x ∷ xs) d h = omega (arith, ap ind (h 0 (omega arith)), count-zero p xs d (λ k l. h (suc k) (omega arith)))
+
   -- ---- stores
 
   -- what holds at each place, and of what is stored, holds at each place after the store
@@ -220,6 +232,24 @@ below-suc P n f x j h = go (ℕ-discrete j n)
     go (yes e) = subst P (sym e) x
     go (no d) = f j (lt-of-le-of-ne (le-of-suc-le-suc h) d)
 
+module _ (p : ℕ → Bool) where
+  -- all below n pass
+  abbrev pub AllBelow : ℕ → Type 0
+  AllBelow n = (j : ℕ) → j < n → p j ≡ true
+
+  -- one below n does not pass, and all below that one do
+  abbrev pub FirstFailing : ℕ → Type 0
+  FirstFailing n = (i : ℕ) × (i < n) × (p i ≡ false) × AllBelow i
+
+  pub first-failing : (n : ℕ) → AllBelow n ⊎ FirstFailing n
+  first-failing zero = inl (λ j h. absurd (not-suc-le-zero h))
+  first-failing (suc n) = go (cases (p n)) (first-failing n)
+    where
+      go : (p n ≡ true) ⊎ (p n ≡ false) → AllBelow n ⊎ FirstFailing n → AllBelow (suc n) ⊎ FirstFailing (suc n)
+      go c (inr x) = inr (x .0, omega (arith, x .1), x .2, x .3)
+      go (inl e) (inl g) = inl (below-suc (λ j. p j ≡ true) n g e)
+      go (inr e) (inl g) = inr (n, omega arith, e, g)
+
 -- ---- sums
 
 -- The sum of n + 1 numbers is that of n and one more.
@@ -235,3 +265,48 @@ sum-ext f g (suc n) h =
     let p = sum-ext f g n (λ i b. h i (omega arith)) in
     let q = h n (omega arith) in
     λ i. p i + q i
+
+-- a sum of smaller numbers is smaller
+pub sum-le : (f g : ℕ → ℕ) (n : ℕ) → ((k : ℕ) → k < n → f k ≤ g k) → sum f n ≤ sum g n
+unfolding sum
+sum-le f g zero h = omega arith
+sum-le f g (suc n) h = omega (arith, sum-le f g n (λ k l. h k (omega arith)), h n (omega arith))
+
+-- strictly so where one of them is
+pub sum-lt : (f g : ℕ → ℕ) (n : ℕ) → ((k : ℕ) → k < n → f k ≤ g k) → (i : ℕ) → i < n → f i < g i → sum f n < sum g n
+unfolding sum
+sum-lt f g zero h i l e = absurd (not-suc-le-zero l)
+sum-lt f g (suc n) h i l e = go (ℕ-discrete i n) (λ d. sum-lt f g n (λ k l. h k (omega arith)) i d e)
+  where
+    go : Dec (i ≡ n) → (i < n → sum f n < sum g n) → sum f n + f n < sum g n + g n
+    go (yes d) r = omega (arith, sum-le f g n (λ k l. h k (omega arith)), subst (λ j. f j < g j) d e)
+    go (no d) r = omega (arith, r (lt-of-le-of-ne (le-of-suc-le-suc l) d), h n (omega arith))
+
+-- each number is at most the sum
+pub le-sum : (f : ℕ → ℕ) (n k : ℕ) → k < n → f k ≤ sum f n
+unfolding sum
+le-sum f zero k h = absurd (not-suc-le-zero h)
+le-sum f (suc n) k h = below-suc (λ j. f j ≤ sum f n + f n) n (λ j l. omega (arith, le-sum f n j l)) (omega arith) k h
+
+pub sum-zero : (f : ℕ → ℕ) (n : ℕ) → ((k : ℕ) → k < n → f k ≡ 0) → sum f n ≡ 0
+unfolding sum
+sum-zero f zero h = refl
+sum-zero f (suc n) h = omega (arith, sum-zero f n (λ k l. h k (omega arith)), h n (omega arith))
+
+-- the sum of n numbers up to c
+pub sum-times : (f : ℕ → ℕ) (n c : ℕ) → ((k : ℕ) → k < n → f k ≤ c) → sum f n ≤ n * c
+unfolding sum
+sum-times f zero c h = omega arith
+sum-times f (suc n) c h = omega (arith, sum-times f n c (λ k l. h k (omega arith)), h n (omega arith))
+
+-- ---- the largest below a bound
+
+pub le-largestBelow : (f : ℕ → ℕ) (n k : ℕ) → k < n → f k ≤ largestBelow f n
+unfolding largestBelow
+le-largestBelow f zero k h = absurd (not-suc-le-zero h)
+le-largestBelow f (suc n) k h = below-suc (λ j. f j ≤ max (largestBelow f n) (f n)) n (λ j l. omega (arith, le-largestBelow f n j l)) (omega arith) k h
+
+pub largestBelow-le : (f : ℕ → ℕ) (n b : ℕ) → ((k : ℕ) → k < n → f k ≤ b) → largestBelow f n ≤ b
+unfolding largestBelow
+largestBelow-le f zero b h = omega arith
+largestBelow-le f (suc n) b h = omega (arith, largestBelow-le f n b (λ k l. h k (omega arith)), h n (omega arith))

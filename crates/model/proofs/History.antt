@@ -55,7 +55,7 @@ Begun t (ran a f) = (a ≤ t) × (a < f)
 
 -- ---- what a view shows
 
-view-begun : (t a f : ℕ) → a ≤ t → statusAt a f t ≡ cond (ltb t f) (running f) done
+pub view-begun : (t a f : ℕ) → a ≤ t → statusAt a f t ≡ cond (ltb t f) (running f) done
 unfolding statusAt
 view-begun t a f h = rw (le-ltb t a h) refl
 
@@ -112,6 +112,11 @@ pub fresh-unfinished : (u : ℕ) (x : Entry) → hasStarted x ≡ false → Fini
 fresh-unfinished u unstarted e f = f
 fresh-unfinished u (ran a b) e f = true≢false e
 
+-- what has finished has started
+pub finished-started : (t : ℕ) (x : Entry) → Finished t x → hasStarted x ≡ true
+finished-started t unstarted f = absurd f
+finished-started t (ran a f) l = refl
+
 -- what has not started is waiting
 pub fresh-waiting : (u : ℕ) (x : Entry) → hasStarted x ≡ false → view u x ≡ waiting
 fresh-waiting u unstarted e = refl
@@ -132,6 +137,10 @@ pub record Ready (js : List Job) (s : Scenario) (t : ℕ) (h : List Entry) (i : 
   pub fresh : hasStarted (entry h i) ≡ false
   pub released : s .release i ≤ t
   pub served : (w : ℕ) → member w (predecessors js i) ≡ true → Finished t (entry h w)
+
+-- before p, no core was free while a job was ready
+abbrev pub Idle : List Job → ℕ → Scenario → ℕ → List Entry → Type 0
+Idle js m s p h = (u : ℕ) → u < p → (j : ℕ) → j < length js → Ready js s u h j → m ≤ busy u h
 
 module _ (js : List Job) (s : Scenario) (t : ℕ) (h : List Entry) (begun : (k : ℕ) → Begun t (entry h k)) (i : ℕ) where
   look : (k : ℕ) → status (map (view t) h) k ≡ view t (entry h k)

@@ -9,9 +9,13 @@ pub mod Coverage
 pub mod Priority
 pub mod History
 pub mod Starts
-pub mod Invariant
+pub mod Run
+pub mod Covering
 pub mod Predecessors
+pub mod Progress
+pub mod Whole
 pub mod Soundness
+pub mod Following
 pub mod Example
 pub mod Sorted
 pub mod Bounds

@@ -21,7 +21,7 @@ use Rattle.model.proofs.Folds.{every-in, every-out, largest-le, le-larg
 use Rattle.model.proofs.Availability.{countUpTo, Weighs, weighs, weighs-one, weighs-none, availability-from, availability-before, count-first}
 use Rattle.model.proofs.Enclosure.{Wider, Encloses, Shaped}
 use Rattle.model.proofs.Induction.{finishRange}
-use Rattle.model.proofs.History.{Entry, unstarted, ran, entry, hasStarted, runsPast, busy, Finished, busy-start, Ready}
+use Rattle.model.proofs.History.{Entry, unstarted, ran, entry, hasStarted, runsPast, busy, Finished, finished-started, busy-start, Ready, Idle}
 
 -- ---- the relation
 
@@ -33,7 +33,7 @@ Fits (range e f) unstarted = ⊥
 Fits (range e f) (ran start x) = (e ≤ x) × (x ≤ f)
 
 -- a range fits the entry of a started job only
-pub fits-started : (a : Range) (x : Entry) → Fits a x → isRange a ≡ hasStarted x
+fits-started : (a : Range) (x : Entry) → Fits a x → isRange a ≡ hasStarted x
 fits-started empty unstarted h = refl
 fits-started empty (ran start x) h = absurd h
 fits-started (range e f) unstarted h = absurd h
@@ -72,10 +72,6 @@ covers-wider m τ σ t h c r =
       certainly = λ u l. omega (arith, c .certainly u, r .certainly u (omega (arith, c .certainly u)));
     }
 
--- before p, no core was free while a job was ready
-abbrev pub Idle : List Job → ℕ → Scenario → ℕ → List Entry → Type 0
-Idle js m s p h = (u : ℕ) → u < p → (j : ℕ) → j < length js → Ready js s u h j → m ≤ busy u h
-
 abbrev Below : ℕ → Limit → Type 0
 Below x infinite = Unit {0}
 Below x (finite y) = x < y
@@ -87,7 +83,7 @@ abbrev pub Candidate : List Job → State → ℕ → Type 0
 Candidate js σ i = (started σ i ≡ false) × ((w : ℕ) → member w (predecessors js i) ≡ true → started σ w ≡ true)
 
 -- the test of a candidate passes where these hold
-pub candidate-in : (js : List Job) (σ : State) (i : ℕ) → Candidate js σ i → candidate js σ i ≡ true
+candidate-in : (js : List Job) (σ : State) (i : ℕ) → Candidate js σ i → candidate js σ i ≡ true
 unfolding candidate
 candidate-in js σ i c = and-both (not (started σ i)) (every (started σ) (predecessors js i)) (ap not (c .0)) (every-in (started σ) (predecessors js i) (c .1))
 
@@ -111,7 +107,7 @@ module _ (js : List Job) (m : ℕ) (s : Scenario) (admissible : Admissible js s)
       }
 
   -- where there is a candidate, no moment past the work-conserving bound goes by
-  pub not-past-bound : 1 ≤ m → Shaped m (length js) σ → (i : ℕ) → i < length js → candidate js σ i ≡ true → (p : ℕ) → Idle js m s p h → workConservingBound js σ < p → ⊥
+  not-past-bound : 1 ≤ m → Shaped m (length js) σ → (i : ℕ) → i < length js → candidate js σ i ≡ true → (p : ℕ) → Idle js m s p h → workConservingBound js σ < p → ⊥
   unfolding workConservingBound certainlyReady
   not-past-bound cores shaped i b c p idle l =
       go (smallest (candidate js σ) (certainlyReady js σ) (length js)) (smallest-finite (candidate js σ) (certainlyReady js σ) (length js) i b c)
@@ -135,12 +131,8 @@ module _ (js : List Job) (m : ℕ) (s : Scenario) (admissible : Admissible js s)
     ready-candidate =
         candidate-in js σ i (
           fits-started (finishOf σ i) (entry h i) (covers .finishes i) ∙ is .fresh,
-          λ w q. fits-started (finishOf σ w) (entry h w) (covers .finishes w) ∙ finished-started (entry h w) (is .served w q),
+          λ w q. fits-started (finishOf σ w) (entry h w) (covers .finishes w) ∙ finished-started t (entry h w) (is .served w q),
         )
-      where
-        finished-started : (x : Entry) → Finished t x → hasStarted x ≡ true
-        finished-started unstarted f = absurd f
-        finished-started (ran a b) f = refl
 
     earliest-le : earliestStart js σ i ≤ t
     unfolding earliestStart possiblyReady

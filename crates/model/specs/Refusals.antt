@@ -65,3 +65,13 @@ shortBuffer = 15
 -- the buffer is shorter than the file
 abbrev pub shortFile : ℕ
 shortFile = 16
+
+-- ---- of a playing
+
+-- its version, its count or its number of jobs is wrong
+abbrev pub wrongPlaying : ℕ
+wrongPlaying = 17
+
+-- a release or an execution time lies outside its range
+abbrev pub outsideRange : ℕ
+outsideRange = 18

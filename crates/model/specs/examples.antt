@@ -4,3 +4,4 @@ pub mod Cautions
 pub mod Successors
 pub mod Runs
 pub mod Instances
+pub mod Playings

@@ -30,3 +30,7 @@ pub const LATE_JOB: u32 = 14;
 pub const SHORT_BUFFER: u32 = 15;
 
 pub const SHORT_FILE: u32 = 16;
+
+pub const WRONG_PLAYING: u32 = 17;
+
+pub const OUTSIDE_RANGE: u32 = 18;

@@ -2,3 +2,4 @@
 pub mod Numbers
 pub mod Example
 pub mod Rereading
+pub mod Played

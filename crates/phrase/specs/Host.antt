@@ -1,4 +1,4 @@
--- What a host gets: one number for a check, for a reading and for a writing. Assumes nothing.
+-- What a host gets: one number for a check, for a reading, for a writing and for a playing. Assumes nothing.
 use Prim.Native.Nat.{ℕ, _+_, _*_}
 use mathlib.Core.List.{List}
 use lib.ListN.{length}
@@ -26,10 +26,10 @@ numberOf w = refusalAt (w .number) (w .place)
 abbrev pub numberFor : Outcome Phrase → ℕ → ℕ
 numberFor o words = numberOf (valuesOf (answerFor (verdict o words)))
 
--- Of a reading: 0, or its refusal.
-abbrev pub readNumber : Outcome Phrase → ℕ
-readNumber (ok x) = 0
-readNumber (refused n at) = refusalAt n at
+-- Of a reading and of a playing: 0, or its refusal.
+abbrev pub outcomeNumber : {A : Type 0} → Outcome A → ℕ
+outcomeNumber (ok x) = 0
+outcomeNumber (refused n at) = refusalAt n at
 
 -- Of a writing: the file's length, or its refusal.
 abbrev pub writtenNumber : Outcome (List ℕ) → ℕ

@@ -6,7 +6,7 @@ ghost use Rattle.format.specs.Outcome.{ok};
 ghost use Rattle.format.specs.Reading.{reading};
 ghost use Rattle.format.specs.Writing.{writing, leaves};
 ghost use Rattle.rows.specs.PhraseTable.{phraseTable, phraseOf};
-ghost use Rattle.phrase.specs.Host.{places, readNumber, writtenNumber};
+ghost use Rattle.phrase.specs.Host.{places, outcomeNumber, writtenNumber};
 use crate::refusal;
 use reader::read;
 use records::answers::Reading;
@@ -17,7 +17,7 @@ use writer::write;
 // Reads a phrase file. What was read is written as the very file.
 #[no_mangle]
 pub extern "C" fn phrase_read(file: &[u8], phrase: &mut [u32; PHRASE_WORDS]) -> u64
-    ensures number { λ r. ⌜ r ≡ readNumber (reading (now (file .entry))) ⌝ }
+    ensures number { λ r. ⌜ r ≡ outcomeNumber (reading (now (file .entry))) ⌝ }
     ensures phrase { λ _. ⌜ now (phrase .exit) ≡ phraseTable (reading (now (file .entry))) ⌝ }
     ensures again { λ r. ⌜ (r ≡ 0 → writing (phraseOf (now (phrase .exit))) (length (now (file .entry))) ≡ ok (now (file .entry))) ⌝ }
 {

@@ -1,5 +1,6 @@
-// What a host program in C calls: check and report, over a lent table or a table of their own; and, for editors, read and write.
+// What a host program in C calls: check and report, over a lent table or a table of their own; and, for editors, read, write and play.
 mod editing;
+mod playback;
 
 ghost use mathlib.Core.Path.{_≡_};
 ghost use Prim.Native.Nat.{_<_};

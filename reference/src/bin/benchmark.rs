@@ -5,10 +5,14 @@ use std::ops::RangeInclusive;
 use std::time::{Duration, Instant};
 
 use reference::check::check;
+use reference::dispatch::Scenario;
+use reference::draft::playing_bytes;
+use reference::events::by_events;
 use reference::examples::P;
 use reference::foreign::{self, HostPhrase};
-use reference::random::{Generator, Shape, accepted_words, draft, longest};
-use reference::reading::{Phrase, Refusal, read};
+use reference::playing::{Played, literally, play_by};
+use reference::random::{Generator, Shape, accepted_words, draft, longest, scenario};
+use reference::reading::{MOST_STROKES, Phrase, Refusal, read};
 use reference::report::report;
 use reference::walk::{walk, words_per_state};
 use reference::writing::{EditedPhrase, write_into};
@@ -16,6 +20,7 @@ use reference::writing::{EditedPhrase, write_into};
 const SEED: u64 = 1;
 const STROKES: [u64; 4] = [8, 16, 32, 64];
 const DRIVERS: [u64; 3] = [1, 4, 8];
+const DRIVERS_PLAYED: [u64; 4] = [1, 2, 4, 8];
 const TEXT_BYTES: usize = 32_768;
 
 fn main() {
@@ -26,7 +31,9 @@ fn main() {
         "| K | m | reading, library | this | ratio | text, library | this | ratio | report, library | this | ratio |"
     );
     println!("|--:|--:|--:|--:|--:|--:|--:|--:|--:|--:|--:|");
-    each(|strokes, drivers| print_reading_and_report(&clockwork(strokes, drivers)));
+    each(&DRIVERS, |strokes, drivers| {
+        print_reading_and_report(&clockwork(strokes, drivers));
+    });
 
     println!("\nA phrase read from its file, and written to a lent buffer (µs)\n");
     println!(
@@ -37,9 +44,25 @@ fn main() {
     print_reading_and_writing(&clockwork(16, 4));
     print_reading_and_writing(&longest(&mut Generator::new(SEED)).bytes());
 
+    println!(
+        "\nA playing worked out: whole calls, this one's millisecond by millisecond and by events; and without reading \
+         the phrase (µs)\n"
+    );
+    println!(
+        "| run | K | m | last end, ms | library | literal | ratio | by events | ratio \
+         | without reading, library | by events | ratio |"
+    );
+    println!("|:--|--:|--:|--:|--:|--:|--:|--:|--:|--:|--:|--:|");
+    each(&DRIVERS_PLAYED, |strokes, drivers| {
+        print_playing("dense", &dense(strokes, drivers));
+    });
+    each(&DRIVERS_PLAYED, |strokes, drivers| {
+        print_playing("long gaps", &long_gaps(strokes, drivers));
+    });
+
     println!("\nAnalysis, in a table just long enough and in one of half that length\n");
     print_analysis_head();
-    each(|strokes, drivers| {
+    each(&DRIVERS, |strokes, drivers| {
         let (file, words) = crowded(strokes, drivers, 100..=400);
         print_analysis(&file, words);
         print_analysis(&file, words / 2);
@@ -61,9 +84,9 @@ fn print_analysis_head() {
     println!("|--:|--:|--:|:--|--:|--:|--:|--:|--:|--:|--:|--:|--:|");
 }
 
-fn each(mut print: impl FnMut(u64, u64)) {
+fn each(drivers: &[u64], mut print: impl FnMut(u64, u64)) {
     for strokes in STROKES {
-        for drivers in DRIVERS {
+        for &drivers in drivers {
             print(strokes, drivers);
         }
     }
@@ -83,6 +106,30 @@ fn clockwork(strokes: u64, drivers: u64) -> Vec<u8> {
         waiting: 30,
     };
     draft(&mut Generator::new(SEED), &shape).bytes()
+}
+
+/// All called within a short time, so that strokes wait for a driver where there are more of them.
+fn dense(strokes: u64, drivers: u64) -> Shape {
+    Shape {
+        strokes: (strokes, strokes),
+        drivers: (drivers, drivers),
+        bells: (60, 60),
+        ranks: 8,
+        hold: (20, 60),
+        hold_spread: 20,
+        gap: (0, 1),
+        call_spread: 4,
+        waiting: 30,
+    }
+}
+
+/// Calls over the whole hour, so that hardly any stroke waits for another.
+fn long_gaps(strokes: u64, drivers: u64) -> Shape {
+    let gap = 3_500_000 / strokes;
+    Shape {
+        gap: (gap, gap),
+        ..dense(strokes, drivers)
+    }
 }
 
 /// A phrase accepted with so many states in some level, or the nearest that is found, and the fewest words for it.
@@ -165,8 +212,13 @@ fn times(file: &[u8], words: usize) -> (Times, Times) {
 }
 
 /// The best time of each call in several rounds; calls take turns, so that load meets all alike.
-fn nanoseconds<const N: usize>(mut calls: [&mut dyn FnMut() -> u64; N]) -> [f64; N] {
+fn nanoseconds<const N: usize>(calls: [&mut dyn FnMut() -> u64; N]) -> [f64; N] {
     const ROUNDS: u32 = 24;
+    best_of(ROUNDS, calls)
+}
+
+/// The same for so many rounds after a first one, which finds how often to repeat each call.
+fn best_of<const N: usize>(rounds: u32, calls: [&mut dyn FnMut() -> u64; N]) -> [f64; N] {
     const LONG_ENOUGH: Duration = Duration::from_millis(4);
     let batch = |call: &mut dyn FnMut() -> u64, repeats: u32| {
         let start = Instant::now();
@@ -175,17 +227,21 @@ fn nanoseconds<const N: usize>(mut calls: [&mut dyn FnMut() -> u64; N]) -> [f64;
         }
         start.elapsed()
     };
+    let each = |time: Duration, repeats: u32| time.as_nanos() as f64 / f64::from(repeats);
     let mut repeats = [1; N];
-    for (call, repeats) in calls.iter_mut().zip(&mut repeats) {
-        while batch(call, *repeats) < LONG_ENOUGH {
-            *repeats *= 2;
-        }
-    }
     let mut best = [f64::INFINITY; N];
-    for _ in 0..ROUNDS {
+    for n in 0..N {
+        let mut time = batch(calls[n], repeats[n]);
+        while time < LONG_ENOUGH {
+            repeats[n] *= 2;
+            time = batch(calls[n], repeats[n]);
+        }
+        best[n] = each(time, repeats[n]);
+    }
+    for _ in 0..rounds {
         for n in 0..N {
-            let time = batch(calls[n], repeats[n]).as_nanos() as f64;
-            best[n] = best[n].min(time / f64::from(repeats[n]));
+            let time = batch(calls[n], repeats[n]);
+            best[n] = best[n].min(each(time, repeats[n]));
         }
     }
     best
@@ -261,6 +317,70 @@ fn agree_on_writing(file: &[u8], phrase: &EditedPhrase, host: &mut HostPhrase) {
     ];
     assert_eq!(answers, [file.len() as u64; 2], "answers differ");
     assert!(found.iter().all(|found| found == file), "files differ");
+}
+
+fn print_playing(name: &str, shape: &Shape) {
+    let mut random = Generator::new(SEED);
+    let file = draft(&mut random, shape).bytes();
+    let phrase = phrase(&file);
+    let playing = playing_bytes(&scenario(&mut random, &phrase));
+    let last_end = agree_on_playing(&file, &playing);
+    // An empty playing is refused as soon as the phrase is read.
+    let [library_reading, library, own_reading, events] = nanoseconds([
+        &mut || library_played(&file, &[]),
+        &mut || library_played(&file, &playing),
+        &mut || played(&file, &[], by_events),
+        &mut || played(&file, &playing, by_events),
+    ]);
+    // Millions of milliseconds one by one take long, and so need no repetition.
+    let literal_rounds = if last_end < 100_000 { 12 } else { 0 };
+    let [literal] = best_of(literal_rounds, [&mut || played(&file, &playing, literally)]);
+    let (library_run, events_run) = (library - library_reading, events - own_reading);
+    println!(
+        "| {name} | {} | {} | {last_end} | {:.3} | {:.1} | {} | {:.3} | {:.2} | {:.3} | {:.3} | {:.2} |",
+        phrase.strokes.len(),
+        phrase.drivers,
+        library / 1e3,
+        literal / 1e3,
+        two_digits(library / literal),
+        events / 1e3,
+        library / events,
+        library_run / 1e3,
+        events_run / 1e3,
+        library_run / events_run
+    );
+}
+
+fn library_played(file: &[u8], playing: &[u8]) -> u64 {
+    let (mut starts, mut ends) = ([0; MOST_STROKES], [0; MOST_STROKES]);
+    let (starts, ends) = (black_box(&mut starts), black_box(&mut ends));
+    foreign::phrase_play(black_box(file), black_box(playing), starts, ends)
+}
+
+/// This player's answer, as the host's call gives it.
+fn played(file: &[u8], playing: &[u8], run: fn(&Phrase, &Scenario) -> Played) -> u64 {
+    let played = black_box(play_by(black_box(file), black_box(playing), run));
+    played.map_or_else(Refusal::host_number, |_| 0)
+}
+
+/// The library has the starts and ends of the run by events, which tests hold against the literal one; gives the last end.
+fn agree_on_playing(file: &[u8], playing: &[u8]) -> u64 {
+    let expected = play_by(file, playing, by_events).expect("drawn playings are in range");
+    let (mut starts, mut ends) = ([0; MOST_STROKES], [0; MOST_STROKES]);
+    let answer = foreign::phrase_play(file, playing, &mut starts, &mut ends);
+    assert_eq!(answer, 0, "answers differ");
+    let found = Played {
+        starts: starts.map(u64::from),
+        ends: ends.map(u64::from),
+    };
+    assert!(found == expected, "runs differ");
+    expected.ends.into_iter().max().unwrap_or(0)
+}
+
+/// A ratio far below 1, with two digits that say something.
+fn two_digits(ratio: f64) -> String {
+    let places = 1 - ratio.log10().floor() as i32;
+    format!("{ratio:.*}", places.max(2) as usize)
 }
 
 fn print_analysis(file: &[u8], words: usize) {

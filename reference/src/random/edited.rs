@@ -143,7 +143,7 @@ fn too_wide(random: &mut Generator, right: u32, bytes: u64) -> u32 {
 }
 
 /// The first row, the last one, or any of so many; breaks often meet in one row.
-fn row(random: &mut Generator, rows: usize) -> usize {
+pub(super) fn row(random: &mut Generator, rows: usize) -> usize {
     match random.below(4) {
         0 => 0,
         1 => rows - 1,

@@ -15,6 +15,6 @@ pub fn in_hexadecimal(file: &[u8]) -> String {
 }
 
 /// A comparison whose difference begins with the call's name.
-pub fn named(call: &str, compare: impl FnOnce() -> Result<(), String>) -> Result<(), String> {
+pub fn named<T>(call: &str, compare: impl FnOnce() -> Result<T, String>) -> Result<T, String> {
     compare().map_err(|difference| format!("{call}: {difference}"))
 }

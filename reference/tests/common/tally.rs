@@ -1,8 +1,8 @@
-//! Counts the kinds of answers: 0 for accepted, read or written, else the refusal's number.
+//! Counts the kinds of answers: 0 for accepted, read, written or played, else the refusal's number.
 
 #[derive(Default)]
 pub struct Tally {
-    pub counts: [u64; 17],
+    pub counts: [u64; 19],
 }
 
 impl Tally {

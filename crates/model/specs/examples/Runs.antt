@@ -4,7 +4,7 @@ use mathlib.Core.Path.{_≡_, refl}
 use mathlib.Core.List.{List, [], _∷_, map}
 use lib.ListN.{getD}
 use Rattle.model.specs.Jobs.{Job}
-use Rattle.model.specs.Dispatch.{Moment, waiting, running, done, run}
+use Rattle.model.specs.Dispatch.{Scenario, Moment, waiting, running, done, run}
 use Rattle.model.specs.examples.Marked.{dueWaiting, stroke, onOwnBells, phraseP}
 
 -- a phrase on so many cores, the release and execution times of its jobs, and the state of the run that is due at a moment
@@ -16,16 +16,18 @@ pub record Case : Type 0 where
   pub moment : ℕ
   pub expected : Moment
 
+abbrev pub scenarioOf : Case → Scenario
+scenarioOf c = record { release = λ k. getD (c .releases) k 0; execution = λ k. getD (c .executions) k 0 }
+
 abbrev pub reached : Case → Moment
-reached c =
-    run (c .jobs) (c .cores) (record { release = λ k. getD (c .releases) k 0; execution = λ k. getD (c .executions) k 0 }) (c .moment)
+reached c = run (c .jobs) (c .cores) (scenarioOf c) (c .moment)
 
 -- Phrase P, job 0 released at 1: job 1 runs from 0 until 4, job 0 from 4 until 6.
-abbrev pAt : ℕ → Moment → Case
+abbrev pub pAt : ℕ → Moment → Case
 pAt t x = record { cores = 1; jobs = phraseP 7; releases = 1 ∷ 0 ∷ []; executions = 2 ∷ 4 ∷ []; moment = t; expected = x }
 
 -- Of equal priority the smaller number goes first; a smaller priority goes before either.
-abbrev orderAt : ℕ → Moment → Case
+abbrev pub orderAt : ℕ → Moment → Case
 orderAt t x =
     record {
       cores = 1;
@@ -37,7 +39,7 @@ orderAt t x =
     }
 
 -- On two cores: job 1 strikes the bell of job 0, and starts in the millisecond in which that ends, though a core was free; job 2 lists job 1.
-abbrev bellAt : ℕ → Moment → Case
+abbrev pub bellAt : ℕ → Moment → Case
 bellAt t x =
     record {
       cores = 2;
@@ -50,7 +52,7 @@ bellAt t x =
 
 -- On two cores, three jobs are ready at 0: two start in that moment, the first two by priority, and no core is left for job 0. Both end at 2 and free
 -- their cores in one moment; job 0 starts then, and one core stays free.
-abbrev togetherAt : ℕ → Moment → Case
+abbrev pub togetherAt : ℕ → Moment → Case
 togetherAt t x =
     record {
       cores = 2;
@@ -63,7 +65,7 @@ togetherAt t x =
 
 -- On three cores: jobs 1 and 2 are released at 1, and start in that moment. Job 0, released at 2, goes before them but is late for it; it takes the last
 -- core before job 3, released at 2 too, which finds one at 4.
-abbrev lastCoreAt : ℕ → Moment → Case
+abbrev pub lastCoreAt : ℕ → Moment → Case
 lastCoreAt t x =
     record {
       cores = 3;
@@ -75,7 +77,7 @@ lastCoreAt t x =
     }
 
 -- Three jobs of one bell on two cores: job 1 is released at 4, and job 2, released at 0, waits for it, the nearest earlier one, not for job 0.
-abbrev nearestAt : ℕ → Moment → Case
+abbrev pub nearestAt : ℕ → Moment → Case
 nearestAt t x =
     record {
       cores = 2;
@@ -87,7 +89,7 @@ nearestAt t x =
     }
 
 -- Job 2 lists jobs 0 and 1, and waits until both are done, though the third core is free.
-abbrev bothAt : ℕ → Moment → Case
+abbrev pub bothAt : ℕ → Moment → Case
 bothAt t x =
     record {
       cores = 3;

@@ -7,7 +7,9 @@ use Rattle.format.specs.Reading.{reading}
 use Rattle.format.specs.Outcome.{ok, refused}
 use Rattle.format.specs.examples.Files.{fileP, phraseP}
 use Rattle.checking.specs.examples.Checks.{versionNine, byteRemains, latePhrase, Case, lent, dues, given, values}
-use Rattle.phrase.specs.Host.{tableWords, places, numberOf, numberFor, readNumber, writtenNumber}
+use Rattle.playing.specs.Playing.{Times, scenarioFor, playedOf}
+use Rattle.playing.specs.examples.Playings.{playingP, two}
+use Rattle.phrase.specs.Host.{tableWords, places, numberOf, numberFor, outcomeNumber, writtenNumber}
 
 -- a table of 16,384 words, and two to the 32nd places
 pub sizes : tableWords ∷ places ∷ [] ≡ 16384 ∷ 4294967296 ∷ []
@@ -21,9 +23,26 @@ numbers = refl
 
 -- a file that was read, and refusal 12 at 36; a file of 50 bytes that was written, refusal 9 at 92, and 16
 pub edits :
-    map readNumber (ok phraseP ∷ refused 12 36 ∷ []) ++ map writtenNumber (ok fileP ∷ refused 9 92 ∷ refused 16 0 ∷ [])
+    map outcomeNumber (ok phraseP ∷ refused 12 36 ∷ []) ++ map writtenNumber (ok fileP ∷ refused 9 92 ∷ refused 16 0 ∷ [])
     ≡ 0 ∷ 51539607588 ∷ 50 ∷ 38654705756 ∷ 68719476736 ∷ []
 edits = refl
+
+-- a playing that was worked out, 17, and 18 with stroke 3
+abbrev timesP : Times
+timesP = record { starts = 4 ∷ 0 ∷ []; finishes = 6 ∷ 4 ∷ [] }
+
+pub playings : map outcomeNumber (ok timesP ∷ refused 17 0 ∷ refused 18 3 ∷ []) ≡ 0 ∷ 73014444032 ∷ 77309411331 ∷ []
+playings = refl
+
+abbrev played : List ℕ → List ℕ → ℕ
+played file playing = outcomeNumber (playedOf (reading file) playing)
+
+-- of P: its playing; no byte; stroke 1, called at 1, where only 0 is allowed. Of files that are not read: 1 at 0, and 3 at 50
+pub as-played :
+    played fileP playingP ∷ played fileP [] ∷ played fileP (two 0 2 1 4) ∷ played versionNine playingP ∷ played byteRemains playingP ∷ []
+    ≡ 0 ∷ 73014444032 ∷ 77309411329 ∷ 4294967296 ∷ 12884901938 ∷ []
+unfolding reading scenarioFor
+as-played = refl
 
 -- files and tables, and the number that is due
 abbrev pub table : List (Case ℕ)

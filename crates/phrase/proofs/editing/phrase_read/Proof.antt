@@ -13,7 +13,7 @@ use Rattle.format.specs.Reading.{reading}
 use Rattle.format.specs.Writing.{writing}
 use Rattle.rows.specs.PhraseTable.{phraseTable, phraseOf}
 use Rattle.records.proofs.Outcomes.{was-ok, was-refused}
-use Rattle.phrase.specs.Host.{readNumber}
+use Rattle.phrase.specs.Host.{outcomeNumber}
 use Rattle.phrase.proofs.Rereading.{written-again, unread-apart}
 use Rattle.phrase.proofs.editing.phrase_read.Statement.{statement}
 use Rattle.phrase.proofs.editing.phrase_read.Tie as tie
@@ -53,14 +53,14 @@ returns c =
     let d = c .before .before in
     let x = was-read c in
     let table = d .read .ensures .1 ∙ ap phraseTable (x .1) in
-    (sym (ap readNumber (x .1)), (d .read .ensures .1, λ z. ap (λ t. writing (phraseOf t) (length (file d))) table ∙ written-again (file d) (bytes d) (x .0) (x .1)))
+    (sym (ap outcomeNumber (x .1)), (d .read .ensures .1, λ z. ap (λ t. writing (phraseOf t) (length (file d))) table ∙ written-again (file d) (bytes d) (x .0) (x .1)))
 
 returns-2 : tie.Need-returns-2
 returns-2 c =
     let e = c .before in
     let d = e .before .before .before in
     let apart = unread-apart (file d) _ _ (unread e) in
-    (c .refusal .ensures ∙ sym (ap readNumber (unread e)), (d .read .ensures .1, λ z. absurd (omega (arith, apart .0, c .refusal .ensures, z))))
+    (c .refusal .ensures ∙ sym (ap outcomeNumber (unread e)), (d .read .ensures .1, λ z. absurd (omega (arith, apart .0, c .refusal .ensures, z))))
 
 pub phrase-read-spec : {M : Type 1} → statement M
 phrase-read-spec = tie.close (tie.spec read-requires enum-told enum-known-number refusal-requires returns returns-2)

@@ -1,0 +1,3 @@
+-- The run of one playing, in words.
+pub mod examples
+pub mod internal

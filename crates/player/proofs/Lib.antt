@@ -1,0 +1,2 @@
+-- Laws of a playing that is worked out.
+pub mod Jobs

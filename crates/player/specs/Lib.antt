@@ -1,0 +1,1 @@
+-- A playing of a phrase file, worked out.

@@ -1,0 +1,229 @@
+//! The library's runs of playings against this checker's: answers, every word of starts and ends, and the words beyond.
+//!
+//! COMPARE_COUNT phrases with a playing (20,000) of COMPARE_SEED (1), from number COMPARE_FIRST (0) on; and every playing
+//! of the marked phrases and of PLAYED_PHRASES small ones (600) that are accepted.
+
+#[path = "common/differences.rs"]
+mod differences;
+#[path = "common/lent.rs"]
+mod lent;
+#[path = "common/played_kinds.rs"]
+mod played_kinds;
+#[path = "common/settings.rs"]
+mod settings;
+#[path = "common/tally.rs"]
+mod tally;
+
+use std::process::ExitCode;
+
+use differences::{same, same_number};
+use lent::Lent;
+use played_kinds::{Kinds, is_long};
+use reference::check::{Check, HOST_WORDS, check_phrase};
+use reference::dispatch::{Scenario, all_scenarios, scenario_count};
+use reference::draft::playing_bytes;
+use reference::events::by_events;
+use reference::examples::*;
+use reference::foreign;
+use reference::playing::{Played, literally, play_by, read_playing};
+use reference::random::{self, Generator, PlayedCase, TINY, played_case};
+use reference::reading::{MOST_STROKES, Phrase, Refusal, read};
+use settings::{in_hexadecimal, named, setting};
+
+/// So many cases have to meet every kind often; fewer are for a look at one difference.
+const ENOUGH: u64 = 5_000;
+/// Long runs that are run literally too.
+const LONG_AND_LITERAL: u64 = 12;
+/// Small phrases with more playings than this take too long.
+const MOST_PLAYINGS: u64 = 3_000;
+
+/// The literal run; the one by events stands in for it where it is slow.
+fn run(phrase: &Phrase, scenario: &Scenario) -> Played {
+    if is_long(scenario) {
+        by_events(phrase, scenario)
+    } else {
+        literally(phrase, scenario)
+    }
+}
+
+/// What phrase_play has to return: 0, or the refusal.
+fn host_number(expected: &Result<Played, Refusal>) -> u64 {
+    (expected.as_ref()).map_or_else(|refusal| refusal.host_number(), |_| 0)
+}
+
+/// phrase_play: its answer, every word of both arrays, and the words beyond them. Gives what it has played.
+fn compare_play(
+    case: &PlayedCase,
+    expected: &Result<Played, Refusal>,
+    random: &mut Generator,
+) -> Result<Played, String> {
+    let mut lend = || Lent::new(MOST_STROKES, || random.next_number() as u32);
+    let (mut starts, mut ends) = (lend(), lend());
+    let answer = foreign::phrase_play(
+        &case.file,
+        &case.playing,
+        array(&mut starts),
+        array(&mut ends),
+    );
+    let due = match expected {
+        Ok(played) => played,
+        Err(_) => &Played::nothing(),
+    };
+    same_number(host_number(expected), answer)?;
+    let starts = compare_words("start", &due.starts, &starts)?;
+    let ends = compare_words("end", &due.ends, &ends)?;
+    Ok(Played { starts, ends })
+}
+
+fn array(lent: &mut Lent<u32>) -> &mut [u32; MOST_STROKES] {
+    lent.slice().try_into().expect("so many words are lent")
+}
+
+fn compare_words(
+    name: &str,
+    expected: &[u64; MOST_STROKES],
+    lent: &Lent<u32>,
+) -> Result<[u64; MOST_STROKES], String> {
+    for (number, (&due, &found)) in expected.iter().zip(&lent.after).enumerate() {
+        same(
+            due == u64::from(found),
+            format!("{name} of stroke {number}: expected {due}, found {found}"),
+        )?;
+    }
+    same(
+        lent.untouched_from(MOST_STROKES),
+        format!("a word after the {name}s was touched"),
+    )?;
+    Ok(std::array::from_fn(|number| lent.after[number].into()))
+}
+
+/// What the check promises of every run of an accepted phrase.
+fn keeps_promises(phrase: &Phrase, check: &Check, found: &Played) -> Result<(), String> {
+    for (number, stroke) in phrase.strokes.iter().enumerate() {
+        let (end, ends) = (found.ends[number], check.ends[number]);
+        same(
+            ends.contains(end),
+            format!("stroke {number} ends at {end}, reported {ends}"),
+        )?;
+        same(
+            end <= stroke.due,
+            format!("stroke {number} ends at {end}, due {}", stroke.due),
+        )?;
+    }
+    Ok(())
+}
+
+fn compare_case(
+    case: &PlayedCase,
+    random: &mut Generator,
+    kinds: &mut Kinds,
+) -> Result<(), String> {
+    let expected = play_by(&case.file, &case.playing, run);
+    let found = named("phrase_play", || compare_play(case, &expected, random))?;
+    kinds.answers.add(host_number(&expected));
+    let Ok(phrase) = read(&case.file) else {
+        return Ok(());
+    };
+    match &expected {
+        Err(Refusal { number: 17, .. }) => kinds.add_malformed(&phrase, &case.playing),
+        Err(Refusal { place, .. }) => kinds.add_outside(&phrase, &case.playing, *place),
+        Ok(played) => {
+            let scenario = read_playing(&phrase, &case.playing).expect("it was run");
+            let check = check_phrase(&phrase, HOST_WORDS);
+            if check.is_accepted() {
+                keeps_promises(&phrase, &check, &found)?;
+            }
+            kinds.add_run(&phrase, &scenario, played, check.is_accepted());
+            if is_long(&scenario) && kinds.literal_too < LONG_AND_LITERAL {
+                kinds.literal_too += 1;
+                let literal = literally(&phrase, &scenario);
+                same(found == literal, "not the literal run")?;
+            }
+        }
+    }
+    Ok(())
+}
+
+fn compare_random() -> Result<(), String> {
+    let count = setting("COMPARE_COUNT", random::CASES)?;
+    let seed = setting("COMPARE_SEED", random::SEED)?;
+    let first = setting("COMPARE_FIRST", 0)?;
+    if count == 0 {
+        return Err("COMPARE_COUNT is 0: nothing to compare".to_string());
+    }
+    let mut kinds = Kinds::new();
+    for number in first..first + count {
+        let mut random = Generator::of_case(!seed, number);
+        let case = played_case(seed, number);
+        compare_case(&case, &mut random, &mut kinds).map_err(|difference| {
+            format!(
+                "COMPARE_SEED={seed} COMPARE_FIRST={number}: {difference}\n{}",
+                described(&case)
+            )
+        })?;
+    }
+    kinds.print();
+    if count < ENOUGH {
+        return Ok(());
+    }
+    kinds.demand_all(count)
+}
+
+fn described(case: &PlayedCase) -> String {
+    format!(
+        "file {}\nplaying {}",
+        in_hexadecimal(&case.file),
+        in_hexadecimal(&case.playing)
+    )
+}
+
+/// Every playing of an accepted phrase: as the literal run has it, and as the check promises. Gives how many there are.
+fn compare_all_playings(file: &[u8], random: &mut Generator) -> Result<u64, String> {
+    let phrase = read(file).map_err(|refusal| format!("{refusal:?}"))?;
+    let check = check_phrase(&phrase, HOST_WORDS);
+    same(check.is_accepted(), "a phrase that is not accepted")?;
+    let mut count = 0;
+    for scenario in all_scenarios(&phrase) {
+        count += 1;
+        let case = PlayedCase {
+            file: file.to_vec(),
+            playing: playing_bytes(&scenario),
+        };
+        compare_play(&case, &Ok(literally(&phrase, &scenario)), random)
+            .and_then(|found| keeps_promises(&phrase, &check, &found))
+            .map_err(|difference| format!("{difference}\n{}", described(&case)))?;
+    }
+    Ok(count)
+}
+
+fn compare_small_phrases() -> Result<(), String> {
+    let wanted = setting("PLAYED_PHRASES", 600)?;
+    let mut random = Generator::new(random::SEED);
+    let mut playings = 0;
+    for file in [P.to_vec(), m1(), m5(), m6(), m7(), m8()] {
+        playings += compare_all_playings(&file, &mut random)?;
+    }
+    let mut phrases = 0;
+    while phrases < wanted {
+        let draft = random::draft(&mut random, &TINY);
+        let file = random::tuned(&mut random, draft).bytes();
+        let phrase = read(&file).map_err(|refusal| format!("{refusal:?}"))?;
+        let is_small = scenario_count(&phrase).is_some_and(|count| count <= MOST_PLAYINGS);
+        if is_small && check_phrase(&phrase, HOST_WORDS).is_accepted() {
+            phrases += 1;
+            playings += compare_all_playings(&file, &mut random)?;
+        }
+    }
+    println!("all playings of the marked phrases and {phrases} small ones agree: {playings}");
+    same(playings >= 100 * wanted, "small phrases have few playings")
+}
+
+fn main() -> ExitCode {
+    match compare_small_phrases().and_then(|()| compare_random()) {
+        Ok(()) => ExitCode::SUCCESS,
+        Err(difference) => {
+            println!("compare_playing: FAILED: {difference}");
+            ExitCode::FAILURE
+        }
+    }
+}

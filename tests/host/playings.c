@@ -1,0 +1,644 @@
+/*
+ * Calls phrase_play of host/phrase.h on playings of small phrases, whose starts and ends are written here by hand; on playings that are refused, and on the
+ * etude's own, cut short everywhere, with its head changed, and with each call and hold outside its range. Then on random playings, of the etude and of random
+ * phrases, whose runs are worked out here too, millisecond by millisecond, as document 01 has the dispatch rule. areas.h says how memory is lent.
+ *
+ * Reads the etude and its playing from examples/, so it runs in the repository's root. Prints one line for each failure (the first twenty) and a count; exit
+ * status 0 when nothing failed.
+ */
+#define _DEFAULT_SOURCE
+#define TEST "playings"
+
+#include "phrase.h"
+#include "areas.h"
+#include "files.h"
+
+enum { MOST_STROKES = 64, ARRAY = MOST_STROKES * sizeof(uint32_t), RANDOM_ETUDES = 2000, RANDOM_PHRASES = 4000 };
+
+static struct area file_area, playing_area, starts_area, ends_area;
+
+/* ---- Playings and runs ---- */
+
+struct playing {
+    uint32_t strokes;
+    uint32_t calls[MOST_STROKES], holds[MOST_STROKES];
+};
+
+struct run {
+    uint32_t starts[MOST_STROKES], ends[MOST_STROKES];
+};
+
+/* What every refusal leaves. */
+static const struct run no_run;
+
+static struct file encoded(const char *name, const struct playing *playing)
+{
+    struct file file;
+    uint32_t i;
+    file.name = name;
+    file.size = 0;
+    add_byte(&file, 1);
+    add_number(&file, 6 * playing->strokes, 4);
+    for (i = 0; i < playing->strokes; i++) {
+        add_number(&file, playing->calls[i], 4);
+        add_number(&file, playing->holds[i], 2);
+    }
+    return file;
+}
+
+static struct file from_disk(const char *name)
+{
+    struct file file;
+    FILE *stream = fopen(name, "rb");
+    if (stream == NULL)
+        stop(name);
+    file.name = name;
+    file.size = fread(file.bytes, 1, MOST_FILE, stream);
+    fclose(stream);
+    return file;
+}
+
+/* The bytes of a file as a number. */
+static uint32_t number_at(const struct file *file, size_t at, size_t bytes)
+{
+    uint32_t number = 0;
+    for (; bytes > 0; bytes--)
+        number = number * 256 + file->bytes[at++];
+    return number;
+}
+
+static struct playing decoded(const struct file *file)
+{
+    struct playing playing;
+    uint32_t i;
+    memset(&playing, 0, sizeof playing);
+    playing.strokes = (uint32_t)((file->size - 5) / 6);
+    for (i = 0; i < playing.strokes; i++) {
+        playing.calls[i] = number_at(file, 5 + 6 * i, 4);
+        playing.holds[i] = number_at(file, 9 + 6 * i, 2);
+    }
+    return playing;
+}
+
+static struct phrase phrase_of(const struct file *file)
+{
+    struct phrase phrase;
+    if (phrase_read(file->bytes, file->size, &phrase) != 0)
+        stop("a phrase of this test is not read");
+    return phrase;
+}
+
+/* ---- One trial ---- */
+
+struct answer {
+    uint64_t number, place;
+};
+static const struct answer worked_out = {0, 0}, wrong_playing = {17, 0};
+
+/* Every word is there, and nothing around. */
+static void expect_array(const struct area *area, const uint32_t *due, const char *name)
+{
+    char what[64];
+    uint32_t i = 0, found;
+    expect_untouched_from(area, ARRAY, "a byte before an array changed", "a byte past an array changed");
+    while (i < MOST_STROKES && memcmp(area->lent + i * sizeof found, &due[i], sizeof found) == 0)
+        i++;
+    if (i == MOST_STROKES) {
+        expect(1, name);
+        return;
+    }
+    memcpy(&found, area->lent + i * sizeof found, sizeof found);
+    snprintf(what, sizeof what, "the %s of stroke %u", name, (unsigned)i);
+    expect_number(found, due[i], what);
+}
+
+/* File and playing are lent on pages that cannot be written, between guards so many bytes after a place that is aligned. */
+static void try_at(const struct file *file, const struct file *playing, struct answer due, const struct run *run, struct setting setting, size_t offset)
+{
+    uint64_t answer;
+    snprintf(trial, sizeof trial, "phrase_play, %s, %s, %s, filling %02X, offset %lu", file->name, playing->name, where_names[setting.where],
+             (unsigned)setting.filling, (unsigned long)offset);
+    lend_const(&file_area, file->bytes, file->size, setting, offset);
+    lend_const(&playing_area, playing->bytes, playing->size, setting, offset);
+    lend(&starts_area, ARRAY, setting, sizeof(uint32_t));
+    lend(&ends_area, ARRAY, setting, 3 * sizeof(uint32_t));
+    answer = phrase_play(file_area.lent, file->size, playing_area.lent, playing->size, (uint32_t *)(void *)starts_area.lent,
+                         (uint32_t *)(void *)ends_area.lent);
+    expect_answer(answer, due.number, due.place);
+    expect_array(&starts_area, run->starts, "start");
+    expect_array(&ends_area, run->ends, "end");
+}
+
+static void try_play(const struct file *file, const struct file *playing, struct answer due, const struct run *run)
+{
+    int i;
+    for (i = 0; i < SETTINGS; i++)
+        try_at(file, playing, due, run, setting_number(i), 1);
+}
+
+/* In one setting, each time in the next, for what is tried often. */
+static void try_once(const struct file *file, const struct file *playing, struct answer due, const struct run *run)
+{
+    static int turn;
+    turn = (turn + 1) % SETTINGS;
+    try_at(file, playing, due, run, setting_number(turn), (size_t)turn);
+}
+
+/* ---- Runs by hand ---- */
+
+/* Two strokes of one bell on two drivers. */
+#define ONE_BELL "01 00000026 02 01 3C00 0003 0005 01 02 0D 3C 00000000 00000009" HOUR "0D 3C 00000000 00000009" HOUR
+/* Three strokes on one driver, called at 0 to 9, with ranks 2, 1 and 1. */
+#define RANKS                                                                                                                                          \
+    "01 00000042 01 03 3C00 0001 0009 02 3E00 0001 0009 01 4000 0001 0009 01 03 0D 3C 00000000 00000009" HOUR "0D 3E 00000000 00000009" HOUR \
+    "0D 40 00000000 00000009" HOUR
+
+static const struct {
+    const char *name, *hex;
+    size_t at;
+    uint8_t byte;
+    struct playing playing;
+    struct run run;
+} runs[] = {
+    {"P", P, UNCHANGED, {2, {0, 0}, {2, 4}}, {{0, 2}, {2, 6}}},
+    {"P", P, UNCHANGED, {2, {1, 0}, {2, 4}}, {{4, 0}, {6, 4}}},
+    {"P", P, UNCHANGED, {2, {4, 0}, {2, 4}}, {{4, 0}, {6, 4}}},
+    {"P", P, UNCHANGED, {2, {5, 0}, {2, 4}}, {{5, 0}, {7, 4}}},
+    {"P, stroke 0 due 6", P, 35, 0x06, {2, {5, 0}, {2, 4}}, {{5, 0}, {7, 4}}}, /* refused with 14; here it is late */
+    {"P, due before it is called", P, 35, 0x00, {2, {0, 0}, {2, 4}}, {{0, 2}, {2, 6}}},
+    {"P on two drivers", P, 5, 0x02, {2, {1, 0}, {2, 4}}, {{1, 0}, {3, 4}}},
+    {"M1", M1, UNCHANGED, {2, {0, 0}, {1, 3}}, {{0, 1}, {1, 4}}},
+    {"M1", M1, UNCHANGED, {2, {0, 0}, {2, 3}}, {{0, 2}, {2, 5}}},
+    {"M5", M5, UNCHANGED, {3, {0, 0, 0}, {2, 5, 1}}, {{0, 0, 2}, {2, 5, 3}}},
+    {"M5", M5, UNCHANGED, {3, {0, 0, 0}, {2, 5, 3}}, {{0, 0, 2}, {2, 5, 5}}},
+    {"M6", M6, UNCHANGED, {3, {0, 0, 3}, {2, 1, 2}}, {{0, 2, 3}, {2, 3, 5}}},
+    {"M6", M6, UNCHANGED, {3, {0, 0, 3}, {3, 1, 2}}, {{0, 3, 3}, {3, 4, 5}}}, /* two start in one millisecond */
+    {"M6", M6, UNCHANGED, {3, {0, 0, 3}, {4, 1, 2}}, {{0, 4, 3}, {4, 5, 5}}}, /* stroke 1, which still waits, holds none back */
+    {"M7", M7, UNCHANGED, {2, {0, 0}, {1, 1}}, {{0, 1}, {1, 2}}},
+    {"M8", M8, UNCHANGED, {0, {0}, {0}}, {{0}, {0}}},
+    {"M8 on 8 drivers", M8_ON_8, UNCHANGED, {0, {0}, {0}}, {{0}, {0}}},
+    {"one bell", ONE_BELL, UNCHANGED, {2, {0, 0}, {3, 5}}, {{0, 3}, {3, 8}}},
+    {"one bell", ONE_BELL, UNCHANGED, {2, {9, 0}, {4, 3}}, {{9, 13}, {13, 16}}}, /* stroke 1 waits for stroke 0, which is called later */
+    {"one bell", ONE_BELL, UNCHANGED, {2, {0, 5}, {5, 3}}, {{0, 5}, {5, 8}}},
+    {"ranks", RANKS, UNCHANGED, {3, {0, 0, 0}, {4, 5, 6}}, {{11, 0, 5}, {15, 5, 11}}},
+    {"ranks", RANKS, UNCHANGED, {3, {0, 1, 1}, {4, 5, 6}}, {{0, 4, 9}, {4, 9, 15}}},
+    {"ranks", RANKS, UNCHANGED, {3, {1, 4, 0}, {9, 1, 4}}, {{5, 4, 0}, {14, 5, 4}}},
+    {"ranks", RANKS, UNCHANGED, {3, {9, 8, 7}, {9, 1, 1}}, {{9, 8, 7}, {18, 9, 8}}},
+};
+
+static void try_runs(void)
+{
+    size_t i, offset;
+    for (i = 0; i < sizeof runs / sizeof *runs; i++) {
+        struct file file = from_hex(runs[i].name, runs[i].hex), playing = encoded("by hand", &runs[i].playing);
+        file.bytes[runs[i].at] = runs[i].byte;
+        try_play(&file, &playing, worked_out, &runs[i].run);
+        for (offset = 0; offset < 8; offset++)
+            try_at(&file, &playing, worked_out, &runs[i].run, setting_number(SETTINGS - 1), offset);
+    }
+}
+
+/* 64 strokes on one driver, all called at the last moment and held as long as can be: no end is later than 3600000 + 64 * 5000. */
+static void try_latest(void)
+{
+    struct file file = begin("64 strokes after an hour", 1, 1), bytes;
+    struct playing playing;
+    struct run run;
+    uint32_t i;
+    add_bell(&file, 60, 5000, 5000, 255);
+    add_byte(&file, 64);
+    playing.strokes = 64;
+    for (i = 0; i < 64; i++) {
+        add_note(&file, 60, 3600000, 3600000, 0);
+        playing.calls[i] = 3600000;
+        playing.holds[i] = 5000;
+        run.starts[i] = 3600000 + 5000 * i;
+        run.ends[i] = run.starts[i] + 5000;
+    }
+    finish(&file);
+    bytes = encoded("by hand", &playing);
+    try_play(&file, &bytes, worked_out, &run);
+}
+
+/* Each stroke of the longest file waits for the one before it. */
+static void try_longest(void)
+{
+    struct file file = longest(), bytes;
+    struct playing playing;
+    struct run run;
+    uint32_t i, end = 0;
+    playing.strokes = 64;
+    for (i = 0; i < 64; i++) {
+        playing.calls[i] = 0;
+        playing.holds[i] = 5000 - 70 * i;
+        run.starts[i] = end;
+        run.ends[i] = end += playing.holds[i];
+    }
+    bytes = encoded("by hand", &playing);
+    snprintf(trial, sizeof trial, "a longest playing");
+    expect_number(bytes.size, 389, "its length");
+    try_play(&file, &bytes, worked_out, &run);
+    bytes.size--;
+    try_play(&file, &bytes, wrong_playing, &no_run);
+}
+
+/* ---- Refusals by hand ---- */
+
+#define PLAYING_P "01 0000000C 00000005 0002 00000000 0004"
+
+static const struct {
+    const char *name, *hex;
+    size_t at;
+    uint8_t byte;
+    const char *playing;
+    struct answer answer;
+} refusals[] = {
+    /* Those of the file come first, whatever the playing. */
+    {"row 1", "09", 0, 0x09, PLAYING_P, {1, 0}},
+    {"row 1", "09", 0, 0x09, "09", {1, 0}},
+    {"row 2", "01 00 00", UNCHANGED, "", {2, 0}},
+    {"row 3", "01 00000001 01", UNCHANGED, "01 00000000", {3, 6}},
+    {"row 4", "01 00000001 00", UNCHANGED, PLAYING_P, {4, 5}},
+    {"row 5", "01 00000002 01 00", UNCHANGED, PLAYING_P, {5, 6}},
+    {"row 6", P, 7, 0x0B, PLAYING_P, {6, 7}},
+    {"row 7", P, 15, 0xFE, PLAYING_P, {7, 14}},
+    {"row 8", P, 21, 0x41, PLAYING_P, {8, 21}},
+    {"row 9", P, 22, 0x0C, PLAYING_P, {9, 22}},
+    {"row 10", P, 37, 0x3E, PLAYING_P, {10, 36}},
+    {"row 10", P, 37, 0x3E, "02 0000000C 00000006 0002 00000000 0004", {10, 36}},
+    {"row 11", P, 27, 0x06, PLAYING_P, {11, 22}},
+    {"row 12", P_WAITING, UNCHANGED, PLAYING_P, {12, 36}},
+    {"row 12", P_WAITING, UNCHANGED, "01 0000000C FFFFFFFF FFFF 00000000 0004", {12, 36}},
+    /* Then 17. */
+    {"P", P, UNCHANGED, "", {17, 0}},
+    {"P", P, UNCHANGED, "01", {17, 0}},
+    {"P", P, UNCHANGED, "01 000000", {17, 0}},
+    {"P", P, UNCHANGED, "01 00000000", {17, 0}},
+    {"P", P, UNCHANGED, "00 0000000C 00000005 0002 00000000 0004", {17, 0}},
+    {"P", P, UNCHANGED, "02 0000000C 00000005 0002 00000000 0004", {17, 0}},
+    {"P", P, UNCHANGED, "81 0000000C 00000005 0002 00000000 0004", {17, 0}},
+    {"P", P, UNCHANGED, "01 0000000B 00000005 0002 00000000 0004", {17, 0}},
+    {"P", P, UNCHANGED, "01 0000000D 00000005 0002 00000000 0004", {17, 0}},
+    {"P", P, UNCHANGED, "01 0000010C 00000005 0002 00000000 0004", {17, 0}},
+    {"P", P, UNCHANGED, "01 8000000C 00000005 0002 00000000 0004", {17, 0}},
+    {"P", P, UNCHANGED, "01 FFFFFFFF 00000005 0002 00000000 0004", {17, 0}},
+    {"P", P, UNCHANGED, "01 0C000000 00000005 0002 00000000 0004", {17, 0}},
+    {"P", P, UNCHANGED, "01 00000006 00000005 0002", {17, 0}},
+    {"P", P, UNCHANGED, "01 00000006 00000005 0002 00000000 0004", {17, 0}},
+    {"P", P, UNCHANGED, "01 00000012 00000005 0002 00000000 0004 00000000 0004", {17, 0}},
+    {"P", P, UNCHANGED, "01 0000000C 00000005 0002 00000000 0004 00000000 0004", {17, 0}},
+    {"P", P, UNCHANGED, "01 0000000C 00000005 0002 00000000", {17, 0}},
+    {"P", P, UNCHANGED, "01 0000000A 00000005 0002 00000000", {17, 0}},
+    {"P", P, UNCHANGED, "01 0000000C 00000005 0002 00000000 0004 00", {17, 0}},
+    {"P", P, UNCHANGED, "01 0000000D 00000005 0002 00000000 0004 00", {17, 0}},
+    {"P", P, UNCHANGED, "02 0000000C 00000006 0002 00000000 0004", {17, 0}}, /* also outside */
+    {"P", P, UNCHANGED, "01 0000000D 00000006 0002 00000000 0004", {17, 0}},
+    {"M8", M8, UNCHANGED, "", {17, 0}},
+    {"M8", M8, UNCHANGED, "01 00000000 00", {17, 0}},
+    {"M8", M8, UNCHANGED, "01 00000001 00", {17, 0}},
+    {"M8", M8, UNCHANGED, "01 00000006 00000000 0001", {17, 0}},
+    /* Then 18. */
+    {"P", P, UNCHANGED, "01 0000000C 00000006 0002 00000000 0004", {18, 0}},
+    {"P", P, UNCHANGED, "01 0000000C 00000105 0002 00000000 0004", {18, 0}},
+    {"P", P, UNCHANGED, "01 0000000C 80000000 0002 00000000 0004", {18, 0}},
+    {"P", P, UNCHANGED, "01 0000000C FFFFFFFF 0002 00000000 0004", {18, 0}},
+    {"P", P, UNCHANGED, "01 0000000C 00000005 0001 00000000 0004", {18, 0}},
+    {"P", P, UNCHANGED, "01 0000000C 00000005 0003 00000000 0004", {18, 0}},
+    {"P", P, UNCHANGED, "01 0000000C 00000005 0102 00000000 0004", {18, 0}},
+    {"P", P, UNCHANGED, "01 0000000C 00000005 0002 00000001 0004", {18, 1}},
+    {"P", P, UNCHANGED, "01 0000000C 00000005 0002 00000000 0000", {18, 1}},
+    {"P", P, UNCHANGED, "01 0000000C 00000005 0002 00000000 FFFF", {18, 1}},
+    {"P", P, UNCHANGED, "01 0000000C 00000005 0003 00000001 0004", {18, 0}},
+    {"P", P, UNCHANGED, "01 0000000C 00000006 0002 00000000 0005", {18, 0}},
+    {"P, stroke 0 due 6", P, 35, 0x06, "01 0000000C 00000005 0002 00000000 0005", {18, 1}},
+};
+
+static void try_refusals(void)
+{
+    size_t i;
+    struct file file, playing;
+    for (i = 0; i < sizeof refusals / sizeof *refusals; i++) {
+        file = from_hex(refusals[i].name, refusals[i].hex);
+        file.bytes[refusals[i].at] = refusals[i].byte;
+        playing = from_hex(refusals[i].playing, refusals[i].playing);
+        try_play(&file, &playing, refusals[i].answer, &no_run);
+    }
+    file = from_hex("the empty file", "");
+    try_play(&file, &playing, (struct answer){2, 0}, &no_run);
+    playing = from_hex("an empty playing", "");
+    try_play(&file, &playing, (struct answer){2, 0}, &no_run);
+}
+
+/* ---- The run of document 01's dispatch rule, millisecond by millisecond ---- */
+
+enum status { WAITING, HOLDING, DONE };
+
+struct simulation {
+    const struct phrase *phrase;
+    const struct playing *playing;
+    enum status status[MOST_STROKES];
+    uint32_t free_drivers, left;
+    struct run run;
+};
+
+static int is_ready(const struct simulation *now, uint32_t i, uint32_t t)
+{
+    const struct phrase_note *notes = now->phrase->notes;
+    uint32_t wait, earlier = i;
+    if (now->status[i] != WAITING || now->playing->calls[i] > t)
+        return 0;
+    for (wait = 0; wait < notes[i].wait_count; wait++)
+        if (now->status[notes[i].waits[wait]] != DONE)
+            return 0;
+    while (earlier-- > 0)
+        if (notes[earlier].bell == notes[i].bell)
+            return now->status[earlier] == DONE;
+    return 1;
+}
+
+static uint32_t rank_of(const struct phrase *phrase, uint32_t i)
+{
+    return phrase->bells[phrase->notes[i].bell].rank;
+}
+
+/* The first by rank of those that are ready, or K. */
+static uint32_t first_ready(const struct simulation *now, uint32_t t)
+{
+    uint32_t strokes = now->phrase->note_count, first = strokes, i;
+    for (i = 0; i < strokes; i++)
+        if (is_ready(now, i, t) && (first == strokes || rank_of(now->phrase, i) < rank_of(now->phrase, first)))
+            first = i;
+    return first;
+}
+
+static void step(struct simulation *now, uint32_t t)
+{
+    uint32_t strokes = now->phrase->note_count, i;
+    for (i = 0; i < strokes; i++)
+        if (now->status[i] == HOLDING && now->run.ends[i] == t) {
+            now->status[i] = DONE;
+            now->free_drivers++;
+            now->left--;
+        }
+    while (now->free_drivers > 0 && (i = first_ready(now, t)) < strokes) {
+        now->status[i] = HOLDING;
+        now->free_drivers--;
+        now->run.starts[i] = t;
+        now->run.ends[i] = t + now->playing->holds[i];
+    }
+}
+
+static struct run simulated(const struct phrase *phrase, const struct playing *playing)
+{
+    struct simulation now;
+    uint32_t t;
+    memset(&now, 0, sizeof now);
+    now.phrase = phrase;
+    now.playing = playing;
+    now.free_drivers = phrase->drivers;
+    now.left = phrase->note_count;
+    for (t = 0; now.left > 0; t++)
+        step(&now, t);
+    return now.run;
+}
+
+/* ---- What is reported of an accepted phrase ---- */
+
+struct reported {
+    uint32_t number;
+    uint32_t earliest[MOST_STROKES], latest[MOST_STROKES];
+};
+
+static struct reported reported_of(const struct file *file)
+{
+    static uint8_t text[PHRASE_TEXT_BYTES + 1];
+    struct reported reported;
+    const char *line = (const char *)text;
+    uint32_t stroke;
+    memset(&reported, 0, sizeof reported);
+    reported.number = phrase_refusal(phrase_check(file->bytes, file->size));
+    text[phrase_report(file->bytes, file->size, text, PHRASE_TEXT_BYTES)] = '\0';
+    for (; reported.number == 0 && strncmp(line, "stroke ", 7) == 0; line = strchr(line, '\n') + 1) {
+        unsigned earliest, latest;
+        if (sscanf(line, "stroke %u key %*s bell %*u ends %u..%u", &stroke, &earliest, &latest) != 3 || stroke >= MOST_STROKES)
+            stop("a report is not as document 01 has it");
+        reported.earliest[stroke] = earliest;
+        reported.latest[stroke] = latest;
+    }
+    return reported;
+}
+
+/* Ends are in the reported ranges, and in time. */
+static void expect_inside(const struct phrase *phrase, const struct run *run, const struct reported *reported)
+{
+    uint32_t i;
+    for (i = 0; reported->number == 0 && i < phrase->note_count; i++) {
+        expect(reported->earliest[i] <= run->ends[i] && run->ends[i] <= reported->latest[i], "an end is outside the reported range");
+        expect(run->ends[i] <= phrase->notes[i].due, "an end is late");
+    }
+}
+
+/* ---- The etude ---- */
+
+/* A playing with a right count, whatever its length. */
+static struct file counted(const struct file *playing, size_t size)
+{
+    struct file file = *playing;
+    file.name = "the playing cut, its count right";
+    file.size = 1;
+    add_number(&file, size - 5, 4);
+    file.size = size;
+    return file;
+}
+
+static void try_lengths(const struct file *etude, const struct file *playing)
+{
+    struct file cut = *playing;
+    size_t size;
+    for (size = 0; size <= playing->size + 12; size++) {
+        if (size == playing->size)
+            continue;
+        cut = *playing;
+        cut.name = "the playing cut or lengthened";
+        if (size > playing->size)
+            memset(cut.bytes + playing->size, 0, size - playing->size);
+        cut.size = size;
+        try_play(etude, &cut, wrong_playing, &no_run);
+        if (size >= 5) {
+            cut = counted(&cut, size);
+            try_play(etude, &cut, wrong_playing, &no_run);
+        }
+    }
+}
+
+static void try_head(const struct file *etude, const struct file *playing)
+{
+    size_t at;
+    unsigned byte;
+    for (at = 0; at < 5; at++)
+        for (byte = 0; byte < 256; byte++) {
+            struct file changed = *playing;
+            changed.name = "the playing with another head";
+            if (changed.bytes[at] == byte)
+                continue;
+            changed.bytes[at] = (uint8_t)byte;
+            try_once(etude, &changed, wrong_playing, &no_run);
+        }
+}
+
+/* A call or hold outside its range, by itself and with each later stroke outside too. */
+static void try_outside(const struct file *etude, const struct playing *playing, uint32_t stroke, uint32_t call, uint32_t hold)
+{
+    struct playing changed = *playing;
+    struct answer due = {18, stroke};
+    struct file bytes;
+    uint32_t i;
+    changed.calls[stroke] = call;
+    changed.holds[stroke] = hold;
+    bytes = encoded("a stroke outside its range", &changed);
+    try_play(etude, &bytes, due, &no_run);
+    for (i = stroke + 1; i < changed.strokes; i++)
+        changed.holds[i] = 0;
+    bytes = encoded("strokes outside their ranges", &changed);
+    try_play(etude, &bytes, due, &no_run);
+}
+
+static void try_ranges(const struct file *etude, const struct phrase *phrase, const struct playing *playing, uint32_t i)
+{
+    const struct phrase_note *note = &phrase->notes[i];
+    const struct phrase_bell *bell = &phrase->bells[note->bell];
+    const uint32_t calls[] = {note->earliest_call - 1, note->latest_call + 1, note->latest_call + 65536, 0x80000000u, 0xFFFFFFFFu};
+    const uint32_t holds[] = {0, bell->least_hold - 1, bell->most_hold + 1, bell->most_hold + 256, 5001, 65535};
+    const uint32_t ends[] = {note->earliest_call, note->latest_call, bell->least_hold, bell->most_hold};
+    size_t j;
+    for (j = 0; j < sizeof calls / sizeof *calls; j++)
+        try_outside(etude, playing, i, calls[j], playing->holds[i]);
+    for (j = 0; j < sizeof holds / sizeof *holds; j++)
+        try_outside(etude, playing, i, playing->calls[i], holds[j]);
+    for (j = 0; j < 4; j++) {
+        struct playing changed = *playing;
+        struct file bytes;
+        struct run run;
+        changed.calls[i] = ends[j % 2];
+        changed.holds[i] = ends[2 + j / 2];
+        bytes = encoded("a stroke at the ends of its ranges", &changed);
+        run = simulated(phrase, &changed);
+        try_play(etude, &bytes, worked_out, &run);
+    }
+}
+
+/* ---- Random playings ---- */
+
+static uint32_t draw(uint32_t bound)
+{
+    static uint64_t state = 102;
+    state = state * UINT64_C(6364136223846793005) + UINT64_C(1442695040888963407);
+    return (uint32_t)(state >> 33) % bound;
+}
+
+/* In a range, often at one of its ends. */
+static uint32_t draw_from(uint32_t least, uint32_t most)
+{
+    switch (draw(4)) {
+    case 0: return least;
+    case 1: return most;
+    default: return least + draw(most - least + 1);
+    }
+}
+
+static struct playing random_playing(const struct phrase *phrase)
+{
+    struct playing playing;
+    uint32_t i;
+    memset(&playing, 0, sizeof playing);
+    playing.strokes = phrase->note_count;
+    for (i = 0; i < playing.strokes; i++) {
+        const struct phrase_bell *bell = &phrase->bells[phrase->notes[i].bell];
+        playing.calls[i] = draw_from(phrase->notes[i].earliest_call, phrase->notes[i].latest_call);
+        playing.holds[i] = draw_from(bell->least_hold, bell->most_hold);
+    }
+    return playing;
+}
+
+/* Some random playings of a phrase. */
+static void try_random(const struct file *file, const struct phrase *phrase, const struct reported *reported, unsigned count)
+{
+    while (count-- > 0) {
+        struct playing playing = random_playing(phrase);
+        struct run run = simulated(phrase, &playing);
+        struct file bytes = encoded("a random playing", &playing);
+        try_once(file, &bytes, worked_out, &run);
+        expect_inside(phrase, &run, reported);
+    }
+}
+
+/* Strokes that have to wait: short calls, ranks and waits at random, few drivers. Every 16th is as long as a phrase can be. */
+static struct file random_phrase(unsigned number)
+{
+    uint32_t bells = 1 + draw(8), strokes = number % 16 == 0 ? 64 : draw(9), spread = 1 + draw(30), i;
+    struct file file = begin("a random phrase", 1 + draw(draw(2) == 0 ? 8 : 3), bells);
+    for (i = 0; i < bells; i++) {
+        uint32_t least = 1 + draw(6);
+        add_bell(&file, 60 + i, least, least + draw(5), draw(4));
+    }
+    add_byte(&file, strokes);
+    for (i = 0; i < strokes; i++) {
+        uint32_t earliest = draw(spread), waits = draw(3) == 0 ? draw(i < 4 ? i + 1 : 5) : 0;
+        add_note(&file, 60 + draw(bells), earliest, earliest + draw(6), draw(3) == 0 ? earliest + draw(60) : 3600000);
+        add_waits(&file, draw(i - waits + 1), waits);
+    }
+    finish(&file);
+    return file;
+}
+
+/* Phrases that the check accepts, and others; each kind has to come. */
+static void try_random_phrases(void)
+{
+    static const uint32_t numbers[] = {PHRASE_ACCEPTED, PHRASE_TABLE_FULL, PHRASE_LATE};
+    unsigned i, found[PHRASE_LATE + 1] = {0};
+    for (i = 0; i < RANDOM_PHRASES; i++) {
+        struct file file = random_phrase(i);
+        struct phrase phrase = phrase_of(&file);
+        struct reported reported = reported_of(&file);
+        found[reported.number]++;
+        try_random(&file, &phrase, &reported, 3);
+    }
+    for (i = 0; i < sizeof numbers / sizeof *numbers; i++) {
+        snprintf(trial, sizeof trial, "random phrases with number %u", (unsigned)numbers[i]);
+        expect(found[numbers[i]] >= RANDOM_PHRASES / 1000, "they are too few");
+    }
+}
+
+static void try_etude(void)
+{
+    struct file etude = from_disk("examples/etude.phrase"), bytes = from_disk("examples/etude.playing");
+    struct phrase phrase = phrase_of(&etude);
+    struct playing playing = decoded(&bytes);
+    struct run run = simulated(&phrase, &playing);
+    struct reported reported = reported_of(&etude);
+    uint32_t i;
+    try_play(&etude, &bytes, worked_out, &run);
+    expect_number(reported.number, 0, "the number of the etude");
+    expect_inside(&phrase, &run, &reported);
+    try_lengths(&etude, &bytes);
+    try_head(&etude, &bytes);
+    for (i = 0; i < phrase.note_count; i++)
+        try_ranges(&etude, &phrase, &playing, i);
+    try_random(&etude, &phrase, &reported, RANDOM_ETUDES);
+}
+
+int main(void)
+{
+    begin_test();
+    file_area = map_area(MOST_FILE);
+    playing_area = map_area(PHRASE_PLAYING_BYTES);
+    starts_area = map_area(ARRAY);
+    ends_area = map_area(ARRAY);
+    try_runs();
+    try_latest();
+    try_longest();
+    try_refusals();
+    try_etude();
+    try_random_phrases();
+    return end_test();
+}
