@@ -1,5 +1,5 @@
-//! Random phrase files from a seed: valid ones of many shapes, damaged ones, and large ones; random phrases to write; and
-//! random playings.
+//! Random phrase files from a seed: valid ones of many shapes, ones with calls at 0, damaged ones, and large ones; random
+//! phrases to write; and random playings.
 
 mod damaged;
 mod edited;
@@ -12,7 +12,7 @@ pub use damaged::damaged;
 pub use edited::{EditedCase, edited, longest};
 pub use generator::Generator;
 pub use played::{PlayedCase, played};
-pub use valid::{Shape, TINY, accepted_words, draft, tuned, valid};
+pub use valid::{Shape, TINY, accepted_words, at_zero, draft, tuned, valid};
 
 use crate::check::HOST_WORDS;
 use crate::dispatch::Scenario;
@@ -25,6 +25,8 @@ use crate::walk;
 pub const SEED: u64 = 1;
 pub const CASES: u64 = 20_000;
 pub const CASES_PER_WIDEST: u64 = 2_000;
+/// `tests/compare.rs` takes one case with calls at 0 for every four, and itself sees to what these cover.
+pub const CASES_PER_AT_ZERO: u64 = 4;
 
 /// A phrase file and the length of a table to lend for it.
 #[derive(Clone, Debug)]
@@ -58,6 +60,14 @@ pub fn played_case(seed: u64, number: u64) -> PlayedCase {
 /// A case with levels of thousands of states, by number like the others.
 pub fn widest_case(seed: u64, number: u64) -> Case {
     large::widest(&mut Generator::of_case(seed, number))
+}
+
+/// A case with all or most calls at 0, by number like the others.
+pub fn at_zero_case(seed: u64, number: u64) -> Case {
+    let mut random = Generator::of_case(seed, number);
+    let file = at_zero(&mut random);
+    let table_words = table_words(&mut random, &file);
+    Case { file, table_words }
 }
 
 /// One word less than tables of so many states take, `pair` words for each, or exactly so many, or

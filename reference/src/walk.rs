@@ -28,27 +28,41 @@ pub struct Walk {
     pub peak: u64,
 }
 
-struct State {
+#[derive(Debug)]
+pub struct State {
     /// Bit i: stroke i has started.
-    started: u64,
+    pub started: u64,
     /// A1 to Am.
-    available: Vec<Range>,
+    pub available: Vec<Range>,
     /// Per stroke [E, F]; only those of started strokes mean anything.
-    ends: Vec<Range>,
+    pub ends: Vec<Range>,
 }
 
-struct Candidate {
-    stroke: usize,
+#[derive(Debug)]
+pub struct Candidate {
+    pub stroke: usize,
     /// [Rmin, Rmax]
-    ready: Range,
+    pub ready: Range,
 }
 
-struct Edge {
-    stroke: usize,
+/// A candidate of a state, with all that decides whether it may go next.
+#[derive(Debug)]
+pub struct Choice<'a> {
+    pub phrase: &'a Phrase,
+    pub state: &'a State,
+    /// All candidates of the state, by rising number.
+    pub candidates: &'a [Candidate],
+    /// The one of them in question.
+    pub candidate: &'a Candidate,
+}
+
+#[derive(Debug)]
+pub struct Edge {
+    pub stroke: usize,
     /// EST
-    earliest_start: u64,
+    pub earliest_start: u64,
     /// [E, F]
-    ends: Range,
+    pub ends: Range,
 }
 
 /// W: the words that a state takes.
@@ -62,6 +76,16 @@ pub fn capacity(phrase: &Phrase, table_words: usize) -> u64 {
 }
 
 pub fn walk(phrase: &Phrase, table_words: usize) -> Walk {
+    walk_observed(phrase, table_words, |_, _| {})
+}
+
+/// The same walk. Every candidate of every state that it comes to is shown to `observe`, with the edge by which it goes
+/// next, if it may; a refusal ends the walk at the edge shown last.
+pub fn walk_observed(
+    phrase: &Phrase,
+    table_words: usize,
+    observe: impl FnMut(&Choice, Option<&Edge>),
+) -> Walk {
     let mut walker = Walker {
         phrase,
         wait_sets: phrase
@@ -74,6 +98,7 @@ pub fn walk(phrase: &Phrase, table_words: usize) -> Walk {
         edges: 0,
         states: 0,
         peak: 0,
+        observe,
     };
     let outcome = walker.walk().unwrap_or_else(|refusal| refusal);
     Walk {
@@ -84,7 +109,7 @@ pub fn walk(phrase: &Phrase, table_words: usize) -> Walk {
     }
 }
 
-struct Walker<'a> {
+struct Walker<'a, O> {
     phrase: &'a Phrase,
     wait_sets: Vec<u64>,
     capacity: u64,
@@ -93,9 +118,10 @@ struct Walker<'a> {
     edges: u64,
     states: u64,
     peak: u64,
+    observe: O,
 }
 
-impl Walker<'_> {
+impl<O: FnMut(&Choice, Option<&Edge>)> Walker<'_, O> {
     /// Accepted, or as an error the refusal that ended the walk.
     fn walk(&mut self) -> Result<Outcome, Outcome> {
         let phrase = self.phrase;
@@ -121,7 +147,15 @@ impl Walker<'_> {
                 continue;
             };
             for candidate in &candidates {
-                if let Some(edge) = self.edge(state, &candidates, first_ready, candidate) {
+                let choice = Choice {
+                    phrase: self.phrase,
+                    state,
+                    candidates: &candidates,
+                    candidate,
+                };
+                let edge = self.edge(&choice, first_ready);
+                (self.observe)(&choice, edge.as_ref());
+                if let Some(edge) = edge {
                     self.take(state, &edge, &mut available, &mut next, number)?;
                 }
             }
@@ -146,14 +180,9 @@ impl Walker<'_> {
         }
     }
 
-    /// The edge by which candidate `i` goes next, if it may; `first_ready` is the smallest Rmax.
-    fn edge(
-        &self,
-        state: &State,
-        candidates: &[Candidate],
-        first_ready: u64,
-        i: &Candidate,
-    ) -> Option<Edge> {
+    /// The edge by which the candidate goes next, if it may; `first_ready` is the smallest Rmax.
+    fn edge(&self, choice: &Choice, first_ready: u64) -> Option<Edge> {
+        let (state, i) = (choice.state, choice.candidate);
         let first = state.available[0];
         let earliest_start = first.low.max(i.ready.low);
         let certain = first.high.max(first_ready);
@@ -161,7 +190,7 @@ impl Walker<'_> {
             return None;
         }
         let mut latest_start = certain;
-        for j in candidates {
+        for j in choice.candidates {
             if self.phrase.goes_before(j.stroke, i.stroke) {
                 let blocked = self.certain_before(state, j.stroke, i.stroke);
                 if earliest_start >= blocked {

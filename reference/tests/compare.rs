@@ -1,7 +1,7 @@
 //! The product's library against this checker: numbers, places, texts and all that stays untouched.
 //!
-//! COMPARE_COUNT phrases (20,000) of COMPARE_SEED (1), from number COMPARE_FIRST (0) on, and for every
-//! two thousand one of the widest.
+//! COMPARE_COUNT phrases (20,000) of COMPARE_SEED (1), from number COMPARE_FIRST (0) on, for every two
+//! thousand one of the widest, and for every four one with calls at 0.
 
 #[path = "common/lent.rs"]
 mod lent;
@@ -17,12 +17,47 @@ use reference::check::{Check, HOST_WORDS};
 use reference::draft::{Draft, DraftBell, DraftNote};
 use reference::examples::*;
 use reference::foreign;
-use reference::random::{self, Generator, case, widest_case};
+use reference::paper::steps;
+use reference::random::{self, Generator, at_zero_case, case, widest_case};
 use reference::reading::read;
 use reference::report::check_and_text;
-use reference::walk::{capacity, words_per_state};
+use reference::walk::{capacity, walk_observed, words_per_state};
 use settings::{in_hexadecimal, named, setting};
 use tally::Tally;
+
+/// So many cases have to meet latest starts below zero often; fewer are for a look at one difference.
+const ENOUGH: u64 = 5_000;
+
+/// What was compared, by the answers in lent tables.
+#[derive(Default)]
+struct Kinds {
+    answers: Tally,
+    /// Of phrases with a candidate whose latest start is below zero.
+    below_zero: Tally,
+    reports_written: u64,
+    reports_refused: u64,
+}
+
+impl Kinds {
+    fn print(&self) {
+        (self.answers)
+            .print("random phrases that agree, by their answer in tables of many lengths");
+        (self.below_zero).print("those of them in which a latest start is below zero");
+        println!(
+            "reports written {}, refused with 15 {}",
+            self.reports_written, self.reports_refused
+        );
+    }
+
+    /// Names an answer that phrases with a latest start below zero too rarely had in so many cases.
+    fn demand_below_zero(&self, cases: u64) -> Result<(), String> {
+        let is_rare = |answer: &usize| self.below_zero.counts[*answer] * 40 < cases;
+        match [0, 13, 14].into_iter().find(is_rare) {
+            Some(answer) => Err(format!("a latest start below zero is rare with {answer}")),
+            None => Ok(()),
+        }
+    }
+}
 
 struct Trial<'a> {
     file: &'a [u8],
@@ -32,7 +67,7 @@ struct Trial<'a> {
 
 impl Trial<'_> {
     /// Makes all four calls; says which one differs, and how.
-    fn run(&mut self, kinds: &mut Tally, reports: &mut [u64; 2]) -> Result<(), String> {
+    fn run(&mut self, kinds: &mut Kinds) -> Result<(), String> {
         let (check, text) = check_and_text(self.file, HOST_WORDS);
         named("phrase_check", || {
             compare_number(&check, foreign::phrase_check(self.file))
@@ -44,7 +79,10 @@ impl Trial<'_> {
         })?;
 
         let (check, text) = check_and_text(self.file, self.table_words);
-        kinds.add(check.host_number());
+        kinds.answers.add(check.host_number());
+        if has_latest_start_below_zero(self.file, self.table_words) {
+            kinds.below_zero.add(check.host_number());
+        }
         named("phrase_check_with", || {
             let mut table = self.lend_table();
             let number = foreign::phrase_check_with(self.file, table.slice());
@@ -55,7 +93,8 @@ impl Trial<'_> {
             let mut table = self.lend_table();
             let mut lent = self.lend_text(&text);
             let length = foreign::phrase_report_with(self.file, table.slice(), lent.slice());
-            reports[usize::from(length == 0)] += 1;
+            kinds.reports_written += u64::from(length != 0);
+            kinds.reports_refused += u64::from(length == 0);
             compare_text(&text, &lent, length)?;
             self.compare_table(&table)
         })
@@ -93,6 +132,17 @@ impl Trial<'_> {
             Err(format!("a table word from {used} on was touched"))
         }
     }
+}
+
+/// Whether the walk in a table of so many words comes to such a candidate.
+fn has_latest_start_below_zero(file: &[u8], table_words: usize) -> bool {
+    let mut found = false;
+    if let Ok(phrase) = read(file) {
+        walk_observed(&phrase, table_words, |choice, _| {
+            found |= steps(choice).lst < 0
+        });
+    }
+    found
 }
 
 fn compare_number(check: &Check, found: u64) -> Result<(), String> {
@@ -137,18 +187,19 @@ fn compare_random_phrases() -> Result<(), String> {
     if count == 0 {
         return Err("COMPARE_COUNT is 0: nothing to compare".to_string());
     }
-    let mut kinds = Tally::default();
-    let mut reports = [0; 2];
+    let mut kinds = Kinds::default();
     let widest = count.div_ceil(random::CASES_PER_WIDEST);
+    let at_zero = count.div_ceil(random::CASES_PER_AT_ZERO);
     let cases = (first..first + count).map(|number| (number, case(seed, number)));
     let widest = (first..first + widest).map(|number| (number, widest_case(seed, number)));
-    for (number, case) in cases.chain(widest) {
+    let at_zero = (first..first + at_zero).map(|number| (number, at_zero_case(seed, number)));
+    for (number, case) in cases.chain(widest).chain(at_zero) {
         let mut trial = Trial {
             file: &case.file,
             table_words: case.table_words,
             random: Generator::of_case(!seed, number),
         };
-        trial.run(&mut kinds, &mut reports).map_err(|difference| {
+        trial.run(&mut kinds).map_err(|difference| {
             format!(
                 "COMPARE_SEED={seed} COMPARE_FIRST={number}: {difference}\ntable {} words, file {}",
                 case.table_words,
@@ -156,12 +207,11 @@ fn compare_random_phrases() -> Result<(), String> {
             )
         })?;
     }
-    kinds.print("random phrases that agree, by their answer in tables of many lengths");
-    println!(
-        "reports written {}, refused with 15 {}",
-        reports[0], reports[1]
-    );
-    Ok(())
+    kinds.print();
+    if count < ENOUGH {
+        return Ok(());
+    }
+    kinds.demand_below_zero(count)
 }
 
 fn compare_examples() -> Result<(), String> {
@@ -199,12 +249,10 @@ fn compare_once(file: &[u8], table_words: usize, seed: u64) -> Result<(), String
         table_words,
         random: Generator::new(seed),
     };
-    trial
-        .run(&mut Tally::default(), &mut [0; 2])
-        .map_err(|difference| {
-            let file = in_hexadecimal(file);
-            format!("{difference}\ntable {table_words} words, file {file}")
-        })
+    trial.run(&mut Kinds::default()).map_err(|difference| {
+        let file = in_hexadecimal(file);
+        format!("{difference}\ntable {table_words} words, file {file}")
+    })
 }
 
 /// Levels of thousands of states: strokes that may go in any order, so that every set of them is one.

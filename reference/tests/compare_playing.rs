@@ -3,6 +3,8 @@
 //! COMPARE_COUNT phrases with a playing (20,000) of COMPARE_SEED (1), from number COMPARE_FIRST (0) on; and every playing
 //! of the marked phrases and of PLAYED_PHRASES small ones (600) that are accepted.
 
+#[path = "common/counts.rs"]
+mod counts;
 #[path = "common/differences.rs"]
 mod differences;
 #[path = "common/lent.rs"]

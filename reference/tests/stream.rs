@@ -28,7 +28,7 @@ struct Walked {
     host: Walk,
 }
 
-/// All that is compared, for all tests.
+/// All that is compared but the cases with calls at 0, for all tests.
 static STREAM: LazyLock<Vec<Seen>> = LazyLock::new(|| {
     let cases = (0..CASES).map(|number| case(SEED, number));
     let widest = (0..CASES / CASES_PER_WIDEST).map(|number| widest_case(SEED, number));

@@ -142,10 +142,28 @@ const SHAPES: [Shape; 9] = [
 pub fn valid(random: &mut Generator) -> Vec<u8> {
     let shape = random.pick(&SHAPES);
     let draft = draft(random, &shape);
+    with_some_dues(random, draft).bytes()
+}
+
+/// A valid file of any shape, but with all or most strokes certainly called at 0. Candidates before which one of these
+/// goes often have a thigh of 0, and so a latest start below zero.
+pub fn at_zero(random: &mut Generator) -> Vec<u8> {
+    let shape = random.pick(&SHAPES);
+    let mut draft = draft(random, &shape);
+    let of_a_hundred = random.pick(&[100, 100, 90, 60]);
+    for note in &mut draft.notes {
+        if random.chance(of_a_hundred, 100) {
+            (note.ra, note.rb) = (0, 0);
+        }
+    }
+    with_some_dues(random, draft).bytes()
+}
+
+fn with_some_dues(random: &mut Generator, draft: Draft) -> Draft {
     match random.below(4) {
-        0 => draft.bytes(),
-        1 => with_drawn_dues(random, draft).bytes(),
-        _ => tuned(random, draft).bytes(),
+        0 => draft,
+        1 => with_drawn_dues(random, draft),
+        _ => tuned(random, draft),
     }
 }
 

@@ -4,6 +4,7 @@ use reference::dispatch::Scenario;
 use reference::playing::Played;
 use reference::reading::Phrase;
 
+use crate::counts::Counts;
 use crate::differences::same;
 use crate::tally::Tally;
 
@@ -12,45 +13,6 @@ const LONG: u64 = 20_000;
 
 pub fn is_long(scenario: &Scenario) -> bool {
     scenario.calls.iter().any(|&call| call >= LONG)
-}
-
-/// Names of kinds, and how many were met of each.
-struct Counts<const N: usize> {
-    title: &'static str,
-    names: [&'static str; N],
-    counts: [u64; N],
-}
-
-impl<const N: usize> Counts<N> {
-    fn new(title: &'static str, names: [&'static str; N]) -> Counts<N> {
-        Counts {
-            title,
-            names,
-            counts: [0; N],
-        }
-    }
-
-    /// Counts all kinds that are met.
-    fn add(&mut self, met: [bool; N]) {
-        for (count, met) in self.counts.iter_mut().zip(met) {
-            *count += u64::from(met);
-        }
-    }
-
-    fn print(&self) {
-        let counts: Vec<String> = (self.names.iter().zip(self.counts))
-            .map(|(name, count)| format!("{name} {count}"))
-            .collect();
-        println!("{}: {}", self.title, counts.join(", "));
-    }
-
-    /// Names a kind that was met less than once in `of` cases.
-    fn demand(&self, cases: u64, of: u64) -> Result<(), String> {
-        match self.counts.iter().position(|&count| count * of < cases) {
-            Some(kind) => Err(format!("{}: {} is rare", self.title, self.names[kind])),
-            None => Ok(()),
-        }
-    }
 }
 
 /// What was compared.
