@@ -1,5 +1,5 @@
 -- The sets of predecessors, as the code writes them, and a candidate by its set and that of the started jobs. Assumes nothing.
-use Prim.Native.Nat.{ℕ, _+_, _^_, _<_, _≤_}
+use Prim.Native.Nat.{ℕ, zero, suc, _+_, _/_, _%_, _^_, _<_, _≤_}
 use mathlib.Core.Path.{_≡_, refl, sym, ap, _∙_}
 use mathlib.Core.Logic.{⊎-elim}
 use mathlib.Core.Bool.{Bool, true, false, not, _&&_, _||_, or-assoc, or-false}
@@ -7,6 +7,7 @@ use mathlib.Core.List.{List}
 use native.Mathlib.Numerals.{add-one}
 use native.Mathlib.Omega.{arith}
 use lib.Bits.{bitAnd, bitOr}
+use lib.Count.{trailingZeros, under}
 use lib.Dec.{eqb}
 use lib.ListN.{getD, length, set, drop, drop-of-length-le}
 use lib.Seq.{drop-cons, getD-set-same, getD-set-other}
@@ -20,7 +21,7 @@ use Rattle.model.proofs.Folds.{every-in, every-out, below-suc}
 use Rattle.states.specs.internal.Slots.{setOf, inSet, stateOf}
 use Rattle.states.proofs.Contents.{started-at}
 use Rattle.edges.specs.internal.Edges.{PredecessorSet, PredecessorSets}
-use Rattle.states.proofs.Bits.{in-meet, in-union, in-one, same-set}
+use Rattle.states.proofs.Bits.{in-meet, in-union, in-one, in-half, same-set}
 
 -- ---- the set of a list's elements: each is in the set r, or left in the list from index j on
 
@@ -47,6 +48,25 @@ sets-next js i sets r h f p =
     rw add-one
     (below-suc (λ (n : ℕ). PredecessorSet js n (getD (set sets i r) n 0)) i (λ n b. rw (getD-set-other sets i n r 0 (λ e. omega arith)) (f n b))
     (rw (getD-set-same sets i r 0 h) p))
+
+-- ---- the jobs that are passed over
+
+-- below the lowest digit that is set in what is left of all, every number is in the set
+pub below-the-rest : (k set rest : ℕ) → set + rest + 1 ≡ 2 ^ k → (w : ℕ) → w < trailingZeros k rest → inSet set w ≡ true
+unfolding trailingZeros
+below-the-rest zero set rest e w h = absurd (omega arith)
+below-the-rest (suc k) set rest e w h = go (rest % 2) refl (λ q. below-the-rest k (set / 2) (rest / 2) (omega arith)) w h
+  where
+    go : (d : ℕ) → rest % 2 ≡ d → (d ≡ 0 → (v : ℕ) → v < trailingZeros k (rest / 2) → inSet (set / 2) v ≡ true)
+        → (v : ℕ) → v < under d (trailingZeros k (rest / 2)) → inSet set v ≡ true
+    go zero q lower zero h = eq-eqb (set / 1 % 2) 1 (omega arith)
+    go zero q lower (suc v) h = in-half set v ∙ lower refl v (omega arith)
+    go (suc d) q lower v h = absurd (omega arith)
+
+-- a started job is no candidate
+pub started-not : (js : List Job) (m k : ℕ) (ws : List ℕ) (j : ℕ) → j < k → inSet (setOf ws) j ≡ true → candidate js (stateOf m k ws) j ≡ false
+unfolding candidate
+started-not js m k ws j h e = rw (started-at m k ws j h, e)
 
 -- ---- the test of a candidate
 

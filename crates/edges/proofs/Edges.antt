@@ -1,41 +1,55 @@
--- The bounds of a state and the cases of an edge, by the words that the code computes. Assumes nothing.
-use Prim.Native.Nat.{ℕ, _-_, _<_, _≤_, min, max}
+-- The bounds of a state, the latest start of a job and its edge, by the words that the code computes. Assumes nothing.
+use Prim.Native.Nat.{ℕ, zero, suc, _+_, _<_, _≤_, min, max}
 use mathlib.Core.Path.{_≡_, refl, sym, ap, _∙_}
-use mathlib.Core.Bool.{true, false, _&&_, and-true, and-false}
+use mathlib.Core.Bool.{true, false, _&&_, cond, and-true}
 use mathlib.Core.List.{List, [], _∷_}
 use native.Mathlib.Nat.{add-zero}
 use native.Mathlib.Omega.{arith}
+use lib.Dec.{eqb}
+use lib.IntN.{ℤ, pos, negsuc, _-ℤ_}
 use lib.ListN.{getD, length, take, drop}
 use lib.Seq.{getD-take, getD-drop}
-use borrow.Author.Tests.{lt-ltb, le-ltb, le-leb, lt-leb}
+use lib.Signed.{ltZ, leZ}
+use borrow.Author.Tests.{ltb-true, ltb-false, le-leb, lt-leb, eq-eqb, ne-eqb}
 use Rattle.model.specs.Limits.{latestTime}
-use Rattle.model.specs.Folds.{all, Limit, infinite, finite}
-use Rattle.model.specs.Jobs.{Job, before}
+use Rattle.model.specs.Folds.{all, Limit, infinite, finite, smallest}
+use Rattle.model.specs.Jobs.{Job, job, before}
 use Rattle.model.specs.States.{State, first}
-use Rattle.model.specs.Edges.{orZero, isBelow, lastBelow, candidate, certainlyReady, certainlyReadyBeside, earliestStart, workConservingBound, higherPriorityBound, eligible, latestStart}
-use Rattle.model.proofs.Bounds.{bound-up-to}
+use Rattle.model.specs.Edges.{orZero, candidate, certainlyReady, certainlyReadyBeside, earliestStart, workConservingBound, higherPriorityBound, latestStart, earliestFinish, latestFinish}
+use Rattle.model.specs.Eligibility.{minZ, lastBefore, latestStartZ, inOrder}
 use Rattle.model.specs.internal.Bounds.{TimedUpTo, Bounded}
+use Rattle.model.proofs.Bounds.{bound-up-to}
+use Rattle.model.proofs.Eligibility.{before-suc, min-pos, eligible-in-order, latest-start-is}
 use Rattle.states.specs.internal.Slots.{possiblyAt, certainlyAt, stateOf}
-use Rattle.edges.specs.internal.Edges.{candidates, noLimit, limitWord, firstCertainlyReady, edgeOf}
+use Rattle.edges.specs.internal.Edges.{candidates, noLimit, limitWord, smallestIn, boundOver, startOf, edgeOf, edgeInOrder}
 use Rattle.edges.specs.declared.Edge.the-variants.{NotEligible, Starts}
-use Rattle.edges.proofs.Folds.{smallestIn, smallest-listed}
+use Rattle.edges.proofs.Folds.{smallest-listed}
 
 -- ---- the smallest over the listed candidates
 
-module _ (js : List Job) (σ : State) (k : ℕ) (list : List ℕ) (listed : list ≡ candidates js σ k) (every-job : k ≡ length js) where
-  -- over the candidates, this is the first moment at which one is certainly ready
-  pub first-listed : smallestIn all (certainlyReady js σ) list ≡ firstCertainlyReady js σ
-  unfolding firstCertainlyReady
-  first-listed =
-      rw (listed, ← every-job)
-      (smallest-listed (candidate js σ) all (candidate js σ) (certainlyReady js σ) (λ j. sym (and-true (candidate js σ j))) k)
+module _ (js : List Job) (σ : State) (k : ℕ) (every-job : k ≡ length js) where
+  -- over the candidates, the smallest is the first moment at which one is certainly ready
+  first-listed : smallestIn all (certainlyReady js σ) (candidates js σ k) ≡ smallest (candidate js σ) (certainlyReady js σ) (length js)
+  first-listed = rw (← every-job) (smallest-listed (candidate js σ) all (candidate js σ) (certainlyReady js σ) (λ j. sym (and-true (candidate js σ j))) k)
 
-  -- over the candidates that go before job i, this is the higher-priority bound
-  pub higher-listed : (i : ℕ) → smallestIn (λ j. before js j i) (certainlyReadyBeside js σ i) list ≡ higherPriorityBound js σ i
+  -- over the candidates that go before job i, it is the higher-priority bound
+  pub higher-listed : (i : ℕ) → boundOver js σ i (candidates js σ k) ≡ higherPriorityBound js σ i
   unfolding higherPriorityBound
   higher-listed i =
-      rw (listed, ← every-job)
+      rw (← every-job)
       (smallest-listed (candidate js σ) (λ j. before js j i) (λ j. candidate js σ j && before js j i) (certainlyReadyBeside js σ i) (λ j. refl) k)
+
+  -- the work-conserving bound, from the first upper availability and the first moment at which a candidate is certainly ready
+  pub bound-is : TimedUpTo latestTime js → Bounded js latestTime σ → (free ready : ℕ) → free ≡ first (σ .certainlyFree)
+      → ready ≡ limitWord (smallestIn all (certainlyReady js σ) (candidates js σ k)) → cond (eqb ready noLimit) free (max free ready) ≡ workConservingBound js σ
+  unfolding workConservingBound
+  bound-is timed g free ready e r =
+      go (smallest (candidate js σ) (certainlyReady js σ) (length js)) (r ∙ ap limitWord first-listed) (bound-up-to js latestTime timed σ g)
+    where
+      go : (x : Limit) → ready ≡ limitWord x → max (first (σ .certainlyFree)) (orZero x) ≤ latestTime
+          → cond (eqb ready noLimit) free (max free ready) ≡ max (first (σ .certainlyFree)) (orZero x)
+      go infinite q h = rw (eq-eqb ready noLimit q) (omega arith)
+      go (finite x) q h = rw (ne-eqb ready noLimit (λ (z : ready ≡ noLimit). omega arith)) (omega arith)
 
 -- ---- the first availabilities
 
@@ -57,69 +71,50 @@ module _ (m k : ℕ) (ws : List ℕ) (h : 1 ≤ m) where
   unfolding stateOf
   first-certainly = first-of m (certainlyAt m) ws h
 
-module _ (js : List Job) (timed : TimedUpTo latestTime js) (σ : State) (g : Bounded js latestTime σ) where
-  -- ---- the work-conserving bound, from the first moment that some candidate is certainly ready
+-- ---- the latest start, and the edge
 
-  module _ (ready : ℕ) (r : ready ≡ limitWord (firstCertainlyReady js σ)) where
-    -- with no candidate, the bound is the first upper availability
-    pub bound-without : ready ≡ noLimit → first (σ .certainlyFree) ≡ workConservingBound js σ
-    unfolding workConservingBound firstCertainlyReady
-    bound-without = go (firstCertainlyReady js σ) r (bound-up-to js latestTime timed σ g)
-      where
-        go : (x : Limit) → ready ≡ limitWord x → max (first (σ .certainlyFree)) (orZero x) ≤ latestTime → ready ≡ noLimit
-            → first (σ .certainlyFree) ≡ max (first (σ .certainlyFree)) (orZero x)
-        go infinite q h e = omega arith
-        go (finite x) q h e = omega arith
+-- the smaller of a number and the one before a word for a limit, as far as the word is not past the number
+pub last-in-word : (x r : ℕ) (l : Limit) → x < noLimit → min (suc x) r ≡ min (suc x) (limitWord l) → minZ (pos x) (pos r -ℤ pos 1) ≡ lastBefore x l
+last-in-word x zero infinite h e = absurd (omega arith)
+last-in-word x (suc r) infinite h e = rw (before-suc r, min-pos x r) (ap pos (omega arith))
+last-in-word x r (finite zero) h e = let none : r ≡ 0 = omega arith in ap (λ (z : ℕ). minZ (pos x) (pos z -ℤ pos 1)) none
+last-in-word x zero (finite (suc y)) h e = absurd (omega arith)
+last-in-word x (suc r) (finite (suc y)) h e = rw (before-suc r, min-pos x r, before-suc y, min-pos x y) (ap pos (omega arith))
 
-    -- else it is the larger of that and the moment at which a candidate is certainly ready
-    pub bound-with : (ready ≡ noLimit → ⊥) → max (first (σ .certainlyFree)) ready ≡ workConservingBound js σ
-    unfolding workConservingBound firstCertainlyReady
-    bound-with = go (firstCertainlyReady js σ) r
-      where
-        go : (x : Limit) → ready ≡ limitWord x → (ready ≡ noLimit → ⊥)
-            → max (first (σ .certainlyFree)) ready ≡ max (first (σ .certainlyFree)) (orZero x)
-        go infinite q d = absurd (d q)
-        go (finite x) q d = rw q
+-- a number that an integer is below is not at most it, and one that it is not below is
+not-in-order : (z : ℤ) (e : ℕ) → ltZ z (pos e) ≡ true → leZ (pos e) z ≡ false
+not-in-order (pos l) e h = lt-leb e l (ltb-true l e h)
+not-in-order (negsuc l) e h = refl
 
--- ---- the cases of an edge
+is-in-order : (z : ℤ) (e : ℕ) → ltZ z (pos e) ≡ false → leZ (pos e) z ≡ true
+is-in-order (pos l) e h = le-leb e l (ltb-false l e h)
+is-in-order (negsuc l) e h = sym h
 
 module _ (js : List Job) (σ : State) (i : ℕ) where
-  module _ (start bound : ℕ) (s : start ≡ earliestStart js σ i) (b : bound ≡ workConservingBound js σ) where
-    -- a job that cannot start by the work-conserving bound is not eligible
-    pub past-the-bound : bound < start → NotEligible ≡ edgeOf js σ i
-    unfolding edgeOf eligible
-    past-the-bound h = rw (← s, ← b, lt-leb start bound h, and-false)
+  -- for a candidate, the edge by one comparison is that by two
+  pub same-edge : candidate js σ i ≡ true → edgeInOrder js σ i ≡ edgeOf js σ i
+  unfolding edgeInOrder edgeOf
+  same-edge e = ap (λ b. cond b (Starts (startOf js σ i)) NotEligible) (sym (eligible-in-order js σ i e))
 
-    module _ (higher : ℕ) (t : max start higher ≡ max start (limitWord (higherPriorityBound js σ i))) where
-      -- nor is one that the higher-priority bound holds back
-      pub held-back : start ≤ latestTime → higher ≤ start → NotEligible ≡ edgeOf js σ i
-      unfolding edgeOf eligible
-      held-back early h = rw (← s, go (higherPriorityBound js σ i) t, and-false, and-false)
-        where
-          go : (x : Limit) → max start higher ≡ max start (limitWord x) → isBelow start x ≡ false
-          go infinite q = absurd (omega arith)
-          go (finite y) q = le-ltb start y (omega arith)
+  module _ (z : ℤ) (l : z ≡ latestStartZ js σ i) where
+    -- a job whose latest start is below its earliest has none
+    pub no-edge-found : ltZ z (pos (earliestStart js σ i)) ≡ true → NotEligible ≡ edgeInOrder js σ i
+    unfolding edgeInOrder inOrder
+    no-edge-found h = rw (← l, not-in-order z (earliestStart js σ i) h)
 
-      module _ (h : start < higher) where
-        past : higher ≡ limitWord (higherPriorityBound js σ i)
-        past = omega arith
+    module _ (h : ltZ z (pos (earliestStart js σ i)) ≡ false) where
+      in-order : inOrder js σ i ≡ true
+      unfolding inOrder
+      in-order = rw (← l) (is-in-order z (earliestStart js σ i) h)
 
-        is-below : isBelow start (higherPriorityBound js σ i) ≡ true
-        is-below = go (higherPriorityBound js σ i) past
-          where
-            go : (x : Limit) → higher ≡ limitWord x → isBelow start x ≡ true
-            go infinite q = refl
-            go (finite y) q = lt-ltb start y (omega arith)
+      -- else its latest start is a time
+      pub a-time : z ≡ pos (latestStart js σ i)
+      a-time = l ∙ latest-start-is js σ i in-order
 
-        last-below : bound ≤ latestTime → lastBelow bound (higherPriorityBound js σ i) ≡ min bound (higher - 1)
-        last-below b = go (higherPriorityBound js σ i) past
-          where
-            go : (x : Limit) → higher ≡ limitWord x → lastBelow bound x ≡ min bound (higher - 1)
-            go infinite q = omega arith
-            go (finite y) q = rw q
-
-        -- any other candidate starts from its earliest start to the smaller bound
-        pub starts : bound ≤ latestTime → candidate js σ i ≡ true → start ≤ bound → (last : ℕ) → last ≡ min bound (higher - 1)
-            → Starts start last ≡ edgeOf js σ i
-        unfolding edgeOf eligible latestStart
-        starts g e h₁ last l = rw (← s, ← b, is-below, e, le-leb start bound h₁, last-below g, l)
+      -- and it has one, with these moments
+      pub edge-found : (s e f : ℕ) → s ≡ earliestStart js σ i → e ≡ s + job js i .leastExecution → f ≡ latestStart js σ i + job js i .mostExecution
+          → Starts (record { job = i; start = s; earliest = e; latest = f }) ≡ edgeInOrder js σ i
+      unfolding edgeInOrder earliestFinish latestFinish
+      edge-found s e f p q r =
+          let least : e ≡ earliestStart js σ i + job js i .leastExecution = omega (arith, p, q) in
+          rw (in-order, p, least, r)

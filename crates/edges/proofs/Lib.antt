@@ -2,4 +2,6 @@
 pub mod Candidates
 pub mod Listing
 pub mod Folds
+pub mod Sharing
 pub mod Edges
+pub mod Holders

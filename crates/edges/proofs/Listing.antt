@@ -16,7 +16,7 @@ use Rattle.model.specs.Edges.{candidate}
 use Rattle.edges.specs.internal.Edges.{listBelow, candidates}
 
 -- what holds of each element, and of one put behind them, holds of each
-each-snoc : (P : ℕ → Type 0) (l : List ℕ) (x : ℕ) → ((t : ℕ) → t < length l → P (getD l t 0)) → P x
+pub each-snoc : (P : ℕ → Type 0) (l : List ℕ) (x : ℕ) → ((t : ℕ) → t < length l → P (getD l t 0)) → P x
     → (t : ℕ) → t < length (l ++ (x ∷ [])) → P (getD (l ++ (x ∷ [])) t 0)
 each-snoc P l x f b t h = go (eq-or-lt-of-le (le-of-suc-le-suc (subst (λ (n : ℕ). suc t ≤ n) (length-append l (x ∷ []) ∙ add-one (length l)) h)))
   where
@@ -24,16 +24,17 @@ each-snoc P l x f b t h = go (eq-or-lt-of-le (le-of-suc-le-suc (subst (λ (n : �
     go (inl e) = subst P (sym (getD-at l x [] 0 t (sym e))) b
     go (inr g) = subst P (sym (List·getD-append l (x ∷ []) 0 t g)) (f t g)
 
+-- a word is written behind the first n, and stays if the test is true
+pub written-behind : (l : List ℕ) (n x : ℕ) (b : Bool) → n < length l → take (n + ind b) (set l n x) ≡ cond b (take n l ++ (x ∷ [])) (take n l)
+written-behind l n x true h = rw (add-one n) (take-suc-set l n x h)
+written-behind l n x false h = rw (add-zero n) (take-set-le n l n x (omega arith))
+
 module _ (p : ℕ → Bool) where
   -- a number is written behind the n listed ones, and stays if it passes
   pub list-next : (l : List ℕ) (n j : ℕ) (b : Bool) → n < length l → take n l ≡ listBelow p j → b ≡ p j
       → take (n + ind b) (set l n j) ≡ listBelow p (j + 1)
   unfolding listBelow
-  list-next l n j b h e q = rw (add-one j, ← q) (go b)
-    where
-      go : (c : Bool) → take (n + ind c) (set l n j) ≡ cond c (listBelow p j ++ (j ∷ [])) (listBelow p j)
-      go true = rw (add-one n, take-suc-set l n j h, e)
-      go false = rw (add-zero n, take-set-le n l n j (omega arith), e)
+  list-next l n j b h e q = rw (add-one j, ← q) (written-behind l n j b h ∙ ap (λ (x : List ℕ). cond b (x ++ (j ∷ [])) x) e)
 
   -- each element is below the bound, and passes
   passing : (n t : ℕ) → t < length (listBelow p n) → (getD (listBelow p n) t 0 < n) × (p (getD (listBelow p n) t 0) ≡ true)
@@ -48,6 +49,22 @@ module _ (p : ℕ → Bool) where
           → t < length (cond b (listBelow p n ++ (n ∷ [])) (listBelow p n)) → Good (getD (cond b (listBelow p n ++ (n ∷ [])) (listBelow p n)) t 0)
       go true e f = each-snoc Good (listBelow p n) n f (omega arith, e) t
       go false e f = f t
+
+  -- where none passes, none is listed
+  pub none-listed : (n : ℕ) → ((w : ℕ) → w < n → p w ≡ false) → listBelow p n ≡ []
+  unfolding listBelow
+  none-listed zero h = refl
+  none-listed (suc n) h = rw (h n (omega arith)) (none-listed n (λ w b. h w (omega arith)))
+
+  -- no more are listed than there are
+  pub few-listed : (n : ℕ) → length (listBelow p n) ≤ n
+  unfolding listBelow
+  few-listed zero = omega arith
+  few-listed (suc n) = go (p n) (few-listed n)
+    where
+      go : (b : Bool) → length (listBelow p n) ≤ n → length (cond b (listBelow p n ++ (n ∷ [])) (listBelow p n)) ≤ suc n
+      go true h = omega (arith, h, length-append (listBelow p n) (n ∷ []))
+      go false h = omega (arith, h)
 
   -- a fold over the list is a fold over the numbers that leaves out what does not pass
   pub fold-listed : {A : Type 0} (g : A → ℕ → A) (r : ℕ → A)

@@ -1,2 +1,3 @@
 -- Edges in words.
 pub mod internal
+pub mod examples

@@ -1,39 +1,59 @@
-// Which jobs may start next in a state, and when. There are k jobs, in `rows`, and m cores; the words `s` are the state.
+// Which jobs may start next in a state, and when. There are k jobs, in `rows`, and m cores; the words `s` are the state. The test of a candidate takes the
+// steps of source document 004 in its order; numbers in brackets are those of its equations, names such as EST are document 01's.
 ghost use mathlib.Core.Path.{_≡_};
-ghost use Prim.Native.Nat.{_<_, _≤_, max};
+ghost use Prim.Native.Nat.{suc, _<_, _≤_, max};
 ghost use mathlib.Core.Bool.{true, not, cond, _&&_};
 ghost use mathlib.Core.List.{List};
-ghost use lib.Dec.{ltb};
+ghost use lib.Dec.{eqb};
+ghost use lib.IntN.{pos, _-ℤ_};
 ghost use lib.ListN.{length, take};
 ghost use Rattle.model.specs.Limits.{mostJobs, latestTime};
 ghost use Rattle.model.specs.Folds.{every, member};
-ghost use Rattle.model.specs.Jobs.{Job, job, predecessors, before};
+ghost use Rattle.model.specs.Jobs.{Job, predecessors};
 ghost use Rattle.model.specs.States.{latest, finishOf};
-ghost use Rattle.model.specs.Edges.{candidate, possiblyReady, certainlyReady, earliestStart, workConservingBound, certainlyReadyBeside, higherPriorityBound};
+ghost use Rattle.model.specs.Edges.{candidate, possiblyReady, certainlyReady, earliestStart, workConservingBound, certainlyReadyBeside};
+ghost use Rattle.model.specs.Eligibility.{minZ};
 ghost use Rattle.model.specs.Exploration.{stateWords};
+ghost use Rattle.model.specs.internal.Bounds.{Bounded};
 ghost use Rattle.jobs.specs.internal.JobRow.{jobsOfRows, Rows};
 ghost use Rattle.states.specs.internal.Slots.{inSet, stateOf};
-ghost use Rattle.edges.specs.internal.Edges.{Readable, PredecessorSet, PredecessorSets, candidates, Prepared, limitWord, firstCertainlyReady, edgeOf};
+ghost use Rattle.edges.specs.internal.Edges.{Readable, PredecessorSet, PredecessorSets, candidates, Prepared, noLimit, limitWord, boundOver, Holders, Holding, edgeOf, edgeInOrder};
 use jobs::earliest_release;
-use jobs::goes_before;
 use jobs::is_predecessor;
 use jobs::latest_release;
+use jobs::least_execution;
+use jobs::most_execution;
+use jobs::precedence;
 use jobs::predecessor;
 use jobs::predecessor_count;
+use model::limits::MOST_JOBS;
 use states::reading::earliest_finish;
 use states::reading::latest_finish;
 use states::reading::started_set;
 use states::sizes::SET_WORDS;
+use states::starting::JobStart;
 use words::larger;
 use words::smaller;
 
 // The word for an infinite limit.
 const NO_LIMIT: u32 = 4294967295;
 
+// The set of all jobs.
+const ALL_JOBS: u64 = 18446744073709551615;
+
+// Every moment is below this, so that one has room in a word beside a job's place in the order of priority.
+const MOMENTS: u64 = 67108864;
+
 pub enum Edge {
     NotEligible,
-    // The earliest and the latest start.
-    Starts(u32, u32),
+    // The job, its earliest start, and its finish times.
+    Starts(JobStart),
+}
+
+// What all edges of a state share: the work-conserving bound, and how many jobs are listed that may hold others back.
+pub struct Surveyed {
+    pub bound: u32,
+    pub holders: usize,
 }
 
 // The predecessors of job i: bit w for job w.
@@ -63,7 +83,7 @@ pub fn write_predecessor_sets(rows: &[u32], k: usize, sets: &mut [u64])
     }
 }
 
-// Whether job j is not in the set, and all its predecessors, those in `needed`, are. One comparison tells both: no job is its own predecessor.
+// (1) Whether job j is not in the set, and all its predecessors, those in `needed`, are. One comparison tells both: no job is its own predecessor.
 fn is_candidate(set: u64, needed: u64, j: usize) -> bool
     requires { ⌜ j < mostJobs ⌝ }
     ensures { λ r. ⌜ ((js : List Job) → PredecessorSet js j needed → r ≡ (not (inSet set j) && every (inSet set) (predecessors js j))) ⌝ }
@@ -71,8 +91,9 @@ fn is_candidate(set: u64, needed: u64, j: usize) -> bool
     (needed | (1u64 << j)) & set == needed
 }
 
-// Lists the candidates by rising number, and answers how many there are. This is done once for each state: all of its edges ask for candidates.
-pub fn list_candidates(sets: &[u64], k: usize, s: &[u32], m: usize, list: &mut [u32]) -> usize
+// Lists the candidates by rising number, and answers how many there are. This is done once for each state: all of its edges ask for candidates. The jobs
+// before the first that has not started are passed over at once.
+pub fn list_candidates(sets: &[u64], k: usize, s: &[u32], m: usize, list: &mut [u8]) -> usize
     requires { ⌜ (k ≤ mostJobs) × (stateWords m k ≤ length (now s)) × (k ≤ length (now sets)) × (k ≤ length (now list)) ⌝ }
     ensures { λ r. ⌜ (r ≤ length (now (list .exit)))
         × ((js : List Job) → PredecessorSets js k (now (sets .entry))
@@ -80,15 +101,16 @@ pub fn list_candidates(sets: &[u64], k: usize, s: &[u32], m: usize, list: &mut [
 {
     let set = started_set(s);
     let mut n = 0;
-    let mut j = 0;
+    let mut j = u64::trailing_zeros(ALL_JOBS - set) as usize;
     while j < k {
-        list[n] = j as u32;
+        list[n] = j as u8;
         n += is_candidate(set, sets[j], j) as usize;
         j += 1;
     }
     n
 }
 
+// (2) Rmin, from when on job i is possibly ready.
 fn possibly_ready(rows: &[u32], k: usize, s: &[u32], m: usize, i: usize) -> u32
     requires { ⌜ (i < k) × Readable (now rows) k (now s) m ⌝ }
     ensures { λ r. ⌜ r ≡ possiblyReady (jobsOfRows (now (rows .entry)) k) (stateOf m k (now (s .entry))) i ⌝ }
@@ -103,6 +125,7 @@ fn possibly_ready(rows: &[u32], k: usize, s: &[u32], m: usize, i: usize) -> u32
     ready
 }
 
+// (3) Rmax, from when on job i is certainly ready.
 fn certainly_ready(rows: &[u32], k: usize, s: &[u32], m: usize, i: usize) -> u32
     requires { ⌜ (i < k) × Readable (now rows) k (now s) m ⌝ }
     ensures { λ r. ⌜ r ≡ certainlyReady (jobsOfRows (now (rows .entry)) k) (stateOf m k (now (s .entry))) i ⌝ }
@@ -129,6 +152,7 @@ fn latest_finish_beside(rows: &[u32], k: usize, s: &[u32], m: usize, i: usize, w
     latest_finish(s, m, k, w)
 }
 
+// (6) From when on job j is certainly ready where job i is ready: the larger of rb and the F of those waits of j that are not waits of i.
 fn certainly_ready_beside(rows: &[u32], k: usize, s: &[u32], m: usize, i: usize, j: usize) -> u32
     requires { ⌜ (i < k) × (j < k) × Readable (now rows) k (now s) m ⌝ }
     ensures { λ r. ⌜ r ≡ certainlyReadyBeside (jobsOfRows (now (rows .entry)) k) (stateOf m k (now (s .entry))) i j ⌝ }
@@ -146,72 +170,102 @@ fn certainly_ready_beside(rows: &[u32], k: usize, s: &[u32], m: usize, i: usize,
     ready
 }
 
-// From when on some candidate is certainly ready.
-fn first_certainly_ready(rows: &[u32], k: usize, s: &[u32], m: usize, list: &[u32]) -> u32
-    requires { ⌜ Prepared (now rows) k (now s) m (now list) ⌝ }
-    ensures { λ r. ⌜ r ≡ limitWord (firstCertainlyReady (jobsOfRows (now (rows .entry)) k) (stateOf m k (now (s .entry)))) ⌝ }
+// (7) twc: the larger of when a core is certainly free and of when the first candidate is certainly ready, if there is any.
+fn bound_of(free: u32, first: u32) -> u32
+    ensures { λ r. ⌜ r ≡ cond (eqb first noLimit) free (max free first) ⌝ }
 {
-    let mut first = NO_LIMIT;
-    let mut t = 0;
-    while t < list.len() {
-        first = smaller(first, certainly_ready(rows, k, s, m, list[t] as usize));
-        t += 1;
-    }
-    first
-}
-
-pub fn work_conserving_bound(rows: &[u32], k: usize, s: &[u32], m: usize, list: &[u32]) -> u32
-    requires { ⌜ Prepared (now rows) k (now s) m (now list) ⌝ }
-    ensures { λ r. ⌜ r ≡ workConservingBound (jobsOfRows (now (rows .entry)) k) (stateOf m k (now (s .entry))) ⌝ }
-{
-    let first = first_certainly_ready(rows, k, s, m, list);
-    let free = s[SET_WORDS + m];
     if first == NO_LIMIT {
         return free;
     }
     larger(free, first)
 }
 
-// Whether job j goes before job i and may be ready before `first`: not before its latest release.
-fn may_lower(rows: &[u32], k: usize, i: usize, j: usize, first: u32) -> bool
-    requires { ⌜ (i < k) × (j < k) × Rows (now rows) k ⌝ }
-    ensures { λ r. ⌜ r ≡ (ltb (job (jobsOfRows (now (rows .entry)) k) j .latestRelease) first && before (jobsOfRows (now (rows .entry)) k) j i) ⌝ }
+// (7) twc, the work-conserving bound; and for (5) the candidates that may hold another back before it, each in a word: its place in the order of priority, and
+// from when on it is certainly ready. A candidate whose latest release lies past the bound holds none back before it.
+pub fn survey(
+    rows: &[u32],
+    k: usize,
+    s: &[u32],
+    m: usize,
+    list: &[u8],
+    holders: &mut [u64],
+) -> Surveyed
+    requires { ⌜ Prepared (now rows) k (now s) m (now list) × (k ≤ length (now holders)) ⌝ }
+    ensures { λ r. ⌜ r .bound ≡ workConservingBound (jobsOfRows (now (rows .entry)) k) (stateOf m k (now (s .entry))) ⌝ }
+    ensures { λ r. ⌜ (r .holders ≤ length (now (holders .exit)))
+        × Holding (jobsOfRows (now (rows .entry)) k) (stateOf m k (now (s .entry))) k (suc (r .bound))
+        (candidates (jobsOfRows (now (rows .entry)) k) (stateOf m k (now (s .entry))) k) (take (r .holders) (now (holders .exit))) ⌝ }
 {
-    if first <= latest_release(rows, k, j) {
-        return false;
+    let free = s[SET_WORDS + m];
+    let mut first = NO_LIMIT;
+    let mut n = 0;
+    let mut t = 0;
+    while t < list.len() {
+        let j = list[t] as usize;
+        let ready = certainly_ready(rows, k, s, m, j);
+        first = smaller(first, ready);
+        holders[n] = precedence(rows, k, j) * MOMENTS + ready as u64;
+        n += (latest_release(rows, k, j) <= larger(free, first)) as usize;
+        t += 1;
     }
-    goes_before(rows, k, j, i)
+    Surveyed {
+        bound: bound_of(free, first),
+        holders: n,
+    }
 }
 
-// The bound, as far as it lies past `start`: one that does not holds the job back, whichever it is.
+// (6) The same of a job j that is certainly ready from `ready` on (Rmax). Where the two share no predecessor it is that moment.
+fn certainly_ready_for(
+    rows: &[u32],
+    k: usize,
+    s: &[u32],
+    m: usize,
+    sets: &[u64],
+    i: usize,
+    j: usize,
+    ready: u32,
+) -> u32
+    requires { ⌜ (i < k) × (j < k) × Readable (now rows) k (now s) m × (k ≤ length (now sets)) × PredecessorSets (jobsOfRows (now rows) k) k (now sets)
+        × (ready ≡ certainlyReady (jobsOfRows (now rows) k) (stateOf m k (now s)) j) ⌝ }
+    ensures { λ r. ⌜ r ≡ certainlyReadyBeside (jobsOfRows (now (rows .entry)) k) (stateOf m k (now (s .entry))) i j ⌝ }
+{
+    if sets[i] & sets[j] == 0 {
+        return ready;
+    }
+    certainly_ready_beside(rows, k, s, m, i, j)
+}
+
+// (5) thigh: the smallest of these over the jobs listed as holders that go before job i.
 fn higher_priority_bound(
     rows: &[u32],
     k: usize,
     s: &[u32],
     m: usize,
-    list: &[u32],
+    sets: &[u64],
+    holders: &[u64],
     i: usize,
-    start: u32,
 ) -> u32
-    requires { ⌜ (i < k) × Prepared (now rows) k (now s) m (now list) × (start ≤ latestTime) ⌝ }
-    ensures { λ r. ⌜ max start r
-        ≡ max start (limitWord (higherPriorityBound (jobsOfRows (now (rows .entry)) k) (stateOf m k (now (s .entry))) i)) ⌝ }
+    requires { ⌜ (i < k) × Readable (now rows) k (now s) m × (k ≤ length (now sets)) × PredecessorSets (jobsOfRows (now rows) k) k (now sets)
+        × Holders (jobsOfRows (now rows) k) (stateOf m k (now s)) k (now holders) ⌝ }
+    ensures { λ r. ⌜ ((h : Holders (jobsOfRows (now (rows .entry)) k) (stateOf m k (now (s .entry))) k (now (holders .entry)))
+        → r ≡ limitWord (boundOver (jobsOfRows (now (rows .entry)) k) (stateOf m k (now (s .entry))) i (h .jobs))) ⌝ }
 {
+    let own = precedence(rows, k, i);
     let mut first = NO_LIMIT;
     let mut t = 0;
-    while t < list.len() {
-        if first <= start {
-            return first;
-        }
-        let j = list[t] as usize;
-        if may_lower(rows, k, i, j, first) {
-            first = smaller(first, certainly_ready_beside(rows, k, s, m, i, j));
+    while t < holders.len() {
+        let place = holders[t] / MOMENTS;
+        if place < own {
+            let j = (place % MOST_JOBS as u64) as usize;
+            let ready = (holders[t] % MOMENTS) as u32;
+            first = smaller(first, certainly_ready_for(rows, k, s, m, sets, i, j, ready));
         }
         t += 1;
     }
     first
 }
 
+// (4) EST, the earliest start.
 fn earliest_start(rows: &[u32], k: usize, s: &[u32], m: usize, i: usize) -> u32
     requires { ⌜ (i < k) × Readable (now rows) k (now s) m ⌝ }
     ensures { λ r. ⌜ r ≡ earliestStart (jobsOfRows (now (rows .entry)) k) (stateOf m k (now (s .entry))) i ⌝ }
@@ -219,27 +273,53 @@ fn earliest_start(rows: &[u32], k: usize, s: &[u32], m: usize, i: usize) -> u32
     larger(s[SET_WORDS], possibly_ready(rows, k, s, m, i))
 }
 
-// Whether candidate i may start next, and when. The work-conserving bound, which all edges of the state share, is given.
+// (8) LST, the smaller of twc and of the moment before thigh. The moment before 0 is -1.
+fn latest_start(bound: u32, higher: u32) -> i64
+    ensures { λ r. ⌜ r ≡ minZ (pos bound) (pos higher -ℤ pos 1) ⌝ }
+{
+    if higher == 0 {
+        return -1;
+    }
+    smaller(bound, higher - 1) as i64
+}
+
+// Whether candidate i may go next, and then its edge.
 pub fn edge_of(
     rows: &[u32],
     k: usize,
     s: &[u32],
     m: usize,
-    list: &[u32],
+    sets: &[u64],
+    holders: &[u64],
     bound: u32,
     i: usize,
 ) -> Edge
-    requires { ⌜ (i < k) × Prepared (now rows) k (now s) m (now list) × (candidate (jobsOfRows (now rows) k) (stateOf m k (now s)) i ≡ true)
-        × (bound ≡ workConservingBound (jobsOfRows (now rows) k) (stateOf m k (now s))) ⌝ }
-    ensures { λ r. ⌜ r ≡ edgeOf (jobsOfRows (now (rows .entry)) k) (stateOf m k (now (s .entry))) i ⌝ }
+    requires { ⌜ (i < k) × Readable (now rows) k (now s) m × Bounded (jobsOfRows (now rows) k) latestTime (stateOf m k (now s))
+        × (k ≤ length (now sets)) × PredecessorSets (jobsOfRows (now rows) k) k (now sets) ⌝ }
+    requires { ⌜ (candidate (jobsOfRows (now rows) k) (stateOf m k (now s)) i ≡ true)
+        × (bound ≡ workConservingBound (jobsOfRows (now rows) k) (stateOf m k (now s)))
+        × Holding (jobsOfRows (now rows) k) (stateOf m k (now s)) k (suc bound) (candidates (jobsOfRows (now rows) k) (stateOf m k (now s)) k)
+        (now holders) ⌝ }
+    ensures one { λ r. ⌜ r ≡ edgeInOrder (jobsOfRows (now (rows .entry)) k) (stateOf m k (now (s .entry))) i ⌝ }
+    ensures two { λ r. ⌜ r ≡ edgeOf (jobsOfRows (now (rows .entry)) k) (stateOf m k (now (s .entry))) i ⌝ }
 {
-    let start = earliest_start(rows, k, s, m, i);
-    if bound < start {
+    // (4) EST.
+    let earliest = earliest_start(rows, k, s, m, i);
+    // (5), (6) thigh, and (8) LST; twc (7) is given.
+    let higher = higher_priority_bound(rows, k, s, m, sets, holders, i);
+    let latest = latest_start(bound, higher);
+    // (9) The job is eligible exactly if EST is at most LST.
+    if latest < earliest as i64 {
         return Edge::NotEligible;
     }
-    let higher = higher_priority_bound(rows, k, s, m, list, i, start);
-    if higher <= start {
-        return Edge::NotEligible;
-    }
-    Edge::Starts(start, smaller(bound, higher - 1))
+    // (10), (11) The edge ends E and F.
+    let last = latest as u32;
+    let e = earliest + least_execution(rows, k, i);
+    let f = last + most_execution(rows, k, i);
+    Edge::Starts(JobStart {
+        job: i,
+        start: earliest,
+        earliest: e,
+        latest: f,
+    })
 }

@@ -1,3 +1,4 @@
 -- Laws of jobs in words.
 pub mod Jobs
+pub mod Order
 pub mod JobRow

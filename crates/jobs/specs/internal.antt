@@ -2,3 +2,4 @@
 pub mod JobRow
 pub mod JobTable
 pub mod Fields
+pub mod Order

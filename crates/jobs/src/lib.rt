@@ -5,10 +5,12 @@ ghost use mathlib.Core.Path.{_≡_};
 ghost use Prim.Native.Nat.{_<_, _≤_};
 ghost use lib.ListN.{getD, length};
 ghost use Rattle.model.specs.Folds.{member};
-ghost use Rattle.model.specs.Jobs.{job, predecessors, before};
+ghost use Rattle.model.specs.Limits.{mostJobs};
+ghost use Rattle.model.specs.Jobs.{job, predecessors};
 ghost use Rattle.format.specs.internal.Analysable.{mostPredecessors};
 ghost use Rattle.jobs.specs.internal.JobRow.{rowWords, word, jobsOfRows, Rows};
 ghost use Rattle.jobs.specs.internal.Fields.{fieldCount, fieldAt};
+ghost use Rattle.jobs.specs.internal.Order.{precedence, places};
 use crate::row::DEADLINE;
 use crate::row::EARLIEST_RELEASE;
 use crate::row::LATEST_RELEASE;
@@ -18,6 +20,7 @@ use crate::row::PREDECESSOR_COUNT;
 use crate::row::PREDECESSORS;
 use crate::row::PRIORITY;
 use crate::row::ROW_WORDS;
+use model::limits::MOST_JOBS;
 
 fn word_at(rows: &[u32], k: usize, i: usize, at: usize) -> u32
     requires { ⌜ (i < k) × (at < rowWords) × Rows (now rows) k ⌝ }
@@ -105,18 +108,10 @@ pub fn is_predecessor(rows: &[u32], k: usize, i: usize, w: usize) -> bool
     false
 }
 
-// Whether job j goes before job i.
-pub fn goes_before(rows: &[u32], k: usize, j: usize, i: usize) -> bool
-    requires { ⌜ (j < k) × (i < k) × Rows (now rows) k ⌝ }
-    ensures { λ r. ⌜ r ≡ before (jobsOfRows (now (rows .entry)) k) j i ⌝ }
+// Where job i stands in the order of priority: of two jobs the one with the smaller number here goes before the other.
+pub fn precedence(rows: &[u32], k: usize, i: usize) -> u64
+    requires { ⌜ (i < k) × (k ≤ mostJobs) × Rows (now rows) k ⌝ }
+    ensures { λ r. ⌜ (r ≡ precedence (jobsOfRows (now (rows .entry)) k) i) × (r < places) ⌝ }
 {
-    let a = priority(rows, k, j);
-    let b = priority(rows, k, i);
-    if a < b {
-        return true;
-    }
-    if b < a {
-        return false;
-    }
-    j < i
+    priority(rows, k, i) as u64 * MOST_JOBS as u64 + i as u64
 }

@@ -19,4 +19,5 @@ pub mod Following
 pub mod Example
 pub mod Sorted
 pub mod Bounds
+pub mod Eligibility
 pub mod StartedSet

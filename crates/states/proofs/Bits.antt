@@ -56,7 +56,7 @@ in-union = in-op bitOr max _||_ go or-shr or-step
     go false false = refl
 
 -- all but the lowest digit
-in-half : (x w : ℕ) → inSet x (suc w) ≡ inSet (x / 2) w
+pub in-half : (x w : ℕ) → inSet x (suc w) ≡ inSet (x / 2) w
 in-half x w = ap (λ (n : ℕ). eqb (n % 2) 1) (half-power x w)
 
 -- nothing is in the empty set

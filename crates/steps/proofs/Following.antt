@@ -6,28 +6,29 @@ use mathlib.Core.List.{List, [], _∷_, foldl, foldl-append}
 use mathlib.Core.Logic.{_⊎_, ⊎-elim}
 use native.Mathlib.Omega.{arith}
 use denote.Enum.Declared.{tagOf}
-use lib.Dec.{leb, ltb}
+use lib.Dec.{leb}
 use lib.ListN.{getD, length, take, drop, take-append-drop}
 use lib.Seq.{take-all}
 use borrow.Author.Tests.{lt-ltb, le-ltb}
-use Rattle.model.specs.Limits.{latestTime, longestExecution}
 use Rattle.model.specs.Jobs.{Job, job}
-use Rattle.model.specs.States.{Range, range, State, started}
-use Rattle.model.specs.Edges.{candidate, isBelow, earliestStart, workConservingBound, higherPriorityBound, eligible, latestStart, earliestFinish, latestFinish, successor}
+use Rattle.model.specs.States.{Range, State, started}
+use Rattle.model.specs.Edges.{candidate, isBelow, earliestStart, workConservingBound, higherPriorityBound, eligible, latestFinish, successor}
 use Rattle.model.specs.Exploration.{Exploration, going, full, miss, limited, stored, observed, addEdge, tryJob, tryJobs}
 use Rattle.model.proofs.Booleans.{and-left}
 use Rattle.model.proofs.Starts.{candidate-out}
-use Rattle.model.proofs.Bounds.{earliest-start-up-to, latest-start-up-to, successor-bounded}
+use Rattle.model.proofs.Bounds.{successor-bounded}
 use Rattle.model.specs.internal.Bounds.{TimedUpTo, Bounded}
-use Rattle.jobs.specs.internal.JobRow.{jobsOfRows, Setting, word, leastExecutionAt, mostExecutionAt}
+use Rattle.jobs.specs.internal.JobRow.{jobsOfRows, Setting, word, leastExecutionAt}
 use Rattle.jobs.proofs.Jobs.{length-jobs, field-of}
 use Rattle.states.specs.declared.starting.JobStart.{JobStart}
+use Rattle.states.specs.internal.Slots.{statesOf}
 use Rattle.states.specs.internal.Writing.{afterStart}
+use Rattle.edges.specs.declared.Edge.{Edge}
 use Rattle.edges.specs.declared.Edge.the-variants.{NotEligible, Starts}
-use Rattle.edges.specs.internal.Edges.{edgeOf, candidates}
+use Rattle.edges.specs.internal.Edges.{startOf, edgeOf, candidates}
 use Rattle.edges.proofs.Listing.{fold-listed, fold-turn}
-use Rattle.steps.specs.internal.Observed.{observedOf}
-use Rattle.steps.specs.internal.Progress.{goingIn, progressOf, Leaves, Follows}
+use Rattle.steps.specs.internal.Observed.{observedOf, Observed}
+use Rattle.steps.specs.internal.Progress.{goingIn, progressOf, HalfAt, Leaves, Follows, observedBy, followed}
 use Rattle.steps.specs.declared.shape.Shape.{Shape}
 use Rattle.steps.specs.declared.progress.Progress.{Progress}
 use Rattle.steps.specs.declared.progress.Progress.the-variants.{Going, Full, Late}
@@ -36,30 +37,29 @@ use Rattle.steps.proofs.progress.Progress.{the-type}
 -- ---- an edge that was found
 
 module _ (js : List Job) (σ : State) (i : ℕ) where
-  -- an edge that was found is that of an eligible job, with its earliest and latest start
-  pub edge-starts : (s t : ℕ) → edgeOf js σ i ≡ Starts s t → (eligible js σ i ≡ true) × (s ≡ earliestStart js σ i) × (t ≡ latestStart js σ i)
+  -- an edge that was found is that of the job, which is eligible, with its moments
+  pub edge-follows : (x : JobStart) → edgeOf js σ i ≡ Starts x → (x .job ≡ i) × Follows js σ x
   unfolding edgeOf
-  edge-starts s t = go (eligible js σ i)
+  edge-follows x = go (eligible js σ i) refl
     where
-      go : (b : Bool) → cond b (Starts (earliestStart js σ i) (latestStart js σ i)) NotEligible ≡ Starts s t → (b ≡ true) × (s ≡ earliestStart js σ i) × (t ≡ latestStart js σ i)
-      go true e = (refl, cc, cc)
-      go false e = let z : _≡_ {A = ℕ} 0 1 = cc in absurd (omega arith)
+      go : (b : Bool) → eligible js σ i ≡ b → cond b (Starts (startOf js σ i)) NotEligible ≡ Starts x → (x .job ≡ i) × Follows js σ x
+      go true q e =
+          let same : startOf js σ i ≡ x = cc in
+          subst (λ (y : JobStart). (y .job ≡ i) × Follows js σ y) same (refl, record { starts = q; start = refl; earliest = refl; latest = refl })
+      go false q e = let z : _≡_ {A = ℕ} 0 1 = cc in absurd (omega arith)
 
-  -- a job with no edge leaves the exploration as it is
-  pub no-edge : (cap : ℕ) (l : List State) (seen : List Range) (c : ℕ) → edgeOf js σ i ≡ NotEligible → going l seen c ≡ tryJob js cap σ i (going l seen c)
-  unfolding edgeOf tryJob
-  no-edge cap l seen c = go (eligible js σ i)
+  -- the job is tried as its edge is observed and followed
+  tried-by : (cap : ℕ) (edge : Edge) → edge ≡ edgeOf js σ i → (l : List State) (seen : List Range) (c : ℕ)
+      → followed js cap σ edge l (observedBy edge seen) c ≡ tryJob js cap σ i (going l seen c)
+  unfolding edgeOf tryJob addEdge successor
+  tried-by cap edge e l seen c = rw e (go (eligible js σ i))
     where
-      go : (b : Bool) → cond b (Starts (earliestStart js σ i) (latestStart js σ i)) NotEligible ≡ NotEligible → going l seen c ≡ cond b (addEdge js cap σ i l seen c) (going l seen c)
-      go true e = let z : _≡_ {A = ℕ} 0 1 = cc in absurd (omega arith)
-      go false e = refl
+      go : (b : Bool) → followed js cap σ (cond b (Starts (startOf js σ i)) NotEligible) l (observedBy (cond b (Starts (startOf js σ i)) NotEligible) seen) c
+          ≡ cond b (addEdge js cap σ i l seen c) (going l seen c)
+      go true = refl
+      go false = refl
 
-  -- an eligible job adds its edge
-  pub an-edge : (cap : ℕ) (l : List State) (seen : List Range) (c : ℕ) → eligible js σ i ≡ true → addEdge js cap σ i l seen c ≡ tryJob js cap σ i (going l seen c)
-  unfolding tryJob
-  an-edge cap l seen c e = sym (ap (λ b. cond b (addEdge js cap σ i l seen c) (going l seen c)) e)
-
--- ---- its moments fit into words
+-- ---- a job of the check
 
 module _ (rows : List ℕ) (k m : ℕ) (setting : Setting rows k m) (i : ℕ) (h : i < k) where
   -- the job is one of the list
@@ -72,27 +72,7 @@ module _ (rows : List ℕ) (k m : ℕ) (setting : Setting rows k m) (i : ℕ) (h
       let least : job (jobsOfRows rows k) i .leastExecution ≡ word rows i leastExecutionAt = field-of rows k i leastExecutionAt h (omega arith) in
       omega (arith, least, setting .executions i h .0, setting .timed .executions i inside)
 
-  -- the finish times of an edge are far below what a word holds
-  pub finishes-fit : (σ : State) (s t : ℕ) → Bounded (jobsOfRows rows k) latestTime σ → edgeOf (jobsOfRows rows k) σ i ≡ Starts s t
-      → (s + job (jobsOfRows rows k) i .leastExecution ≤ latestTime + longestExecution) × (t + job (jobsOfRows rows k) i .mostExecution ≤ latestTime + longestExecution)
-  finishes-fit σ s t b e =
-      let r = edge-starts (jobsOfRows rows k) σ i s t e in
-      let most : job (jobsOfRows rows k) i .mostExecution ≡ word rows i mostExecutionAt = field-of rows k i mostExecutionAt h (omega arith) in
-      let early : earliestStart (jobsOfRows rows k) σ i ≤ latestTime = earliest-start-up-to (jobsOfRows rows k) latestTime (setting .timed) σ b i inside in
-      let late : latestStart (jobsOfRows rows k) σ i ≤ latestTime = latest-start-up-to (jobsOfRows rows k) latestTime (setting .timed) σ b i in (
-        omega (arith, r .1, early, most, setting .executions i h .1, setting .timed .executions i inside),
-        omega (arith, r .2, late, most, setting .executions i h .1),
-      )
-
 -- ---- an edge that is followed
-
--- the moments that the code finds for an edge are those of the definition
-pub found : (js : List Job) (σ : State) (i s t e f : ℕ) → edgeOf js σ i ≡ Starts s t → e ≡ s + job js i .leastExecution → f ≡ t + job js i .mostExecution
-    → Follows js σ (record { job = i; start = s; earliest = e; latest = f })
-unfolding earliestFinish latestFinish
-found js σ i s t e f q p r =
-    let starts = edge-starts js σ i s t q in
-    record { starts = starts .0; start = starts .1; earliest = omega (arith, starts .1, p); latest = omega (arith, starts .2, r) }
 
 module _ (js : List Job) (σ : State) (x : JobStart) (follows : Follows js σ x) where
   -- the job has not started before
@@ -116,23 +96,14 @@ module _ (js : List Job) (σ : State) (x : JobStart) (follows : Follows js σ x)
   new-bounded d timed g b h =
       subst (Bounded js d) successor-is (successor-bounded js d timed σ (x .job) (record { inside = b; starts = follows .starts; timely = omega (arith, follows .latest) }) g)
 
-  module _ (cap : ℕ) (l : List State) (seen : List Range) (c : ℕ) where
-    -- a job that may finish after its deadline ends the exploration
-    pub edge-late : job js (x .job) .deadline < x .latest → miss (x .job) (x .earliest) (x .latest) ≡ addEdge js cap σ (x .job) l seen c
-    unfolding addEdge
-    edge-late h = rw (← follows .earliest, ← follows .latest, lt-ltb (job js (x .job) .deadline) (x .latest) h)
+module _ (js : List Job) (cap : ℕ) (σ : State) (x : JobStart) (l : List State) (seen : List Range) (c : ℕ) where
+  -- a job that may finish after its deadline ends the exploration
+  pub edge-late : job js (x .job) .deadline < x .latest → miss (x .job) (x .earliest) (x .latest) ≡ followed js cap σ (Starts x) l seen c
+  edge-late h = rw (lt-ltb (job js (x .job) .deadline) (x .latest) h)
 
-    -- else the new state is stored, and the finish times are observed
-    pub edge-kept : x .latest ≤ job js (x .job) .deadline
-        → limited cap (afterStart σ x) (stored (afterStart σ x) l) (observed seen (x .job) (range (x .earliest) (x .latest))) c ≡ addEdge js cap σ (x .job) l seen c
-    unfolding addEdge
-    edge-kept h =
-        let i = x .job in
-        let make : State → ℕ → ℕ → Exploration = λ τ e f. limited cap τ (stored τ l) (observed seen i (range e f)) c in
-        let test : ltb (job js i .deadline) (latestFinish js σ i) ≡ false = le-ltb (job js i .deadline) (latestFinish js σ i) (omega (arith, follows .latest)) in
-        rw test
-        (ap (λ τ. make τ (x .earliest) (x .latest)) (sym successor-is) ∙ ap (λ e. make (successor js σ i) e (x .latest)) (follows .earliest)
-        ∙ ap (λ f. make (successor js σ i) (earliestFinish js σ i) f) (follows .latest))
+  -- else the new state is stored
+  pub edge-kept : x .latest ≤ job js (x .job) .deadline → limited cap (afterStart σ x) (stored (afterStart σ x) l) seen c ≡ followed js cap σ (Starts x) l seen c
+  edge-kept h = rw (le-ltb (job js (x .job) .deadline) (x .latest) h)
 
 -- ---- the candidates of a state in turn
 
@@ -199,6 +170,22 @@ pub ended : (r : Progress) → (tagOf the-type r ≡ 1) ⊎ (tagOf the-type r �
 ended (Going n) h m k seen c half = ⊎-elim (λ (e : tagOf the-type (Going n) ≡ 1). absurd (omega (arith, e))) (λ (e : tagOf the-type (Going n) ≡ 2). absurd (omega (arith, e))) h
 ended (Full l) h m k seen c half = tt
 ended (Late i e f) h m k seen c half = tt
+
+-- a job is tried once its edge is observed and followed
+pub edge-tried : (js : List Job) (shape : Shape) (σ : State) (i : ℕ) (edge : Edge) → edge ≡ edgeOf js σ i
+    → (n : ℕ) (half seen half′ seen′ heads′ : List ℕ) (r : Progress) → observedOf (shape .jobs) seen′ ≡ observedBy edge (observedOf (shape .jobs) seen)
+    → Observed (shape .jobs) seen′
+    → ((s : List Range) (c : ℕ) → progressOf (shape .cores) (shape .jobs) s c r half′ ≡ followed js (shape .capacity) σ edge (statesOf (shape .cores) (shape .jobs) half n) s c)
+    → HalfAt js (shape .cores) (shape .jobs) (shape .capacity) r half′ heads′
+    → Leaves js shape (λ c. tryJob js (shape .capacity) σ i (goingIn shape half n seen c)) r half′ seen′ heads′
+edge-tried js shape σ i edge e n half seen half′ seen′ heads′ r widened there follows sound =
+    let l = statesOf (shape .cores) (shape .jobs) half n in
+    record {
+      same = λ c. follows (observedOf (shape .jobs) seen′) c ∙ ap (λ (s : List Range). followed js (shape .capacity) σ edge l s c) widened
+          ∙ tried-by js σ i (shape .capacity) edge e l (observedOf (shape .jobs) seen) c;
+      sound = sound;
+      observed = there;
+    }
 
 module _ (js : List Job) (shape : Shape) (σ : State) (list : List ℕ) (from : ℕ → Exploration) where
   -- what is left once the first t of the listed jobs are tried

@@ -18,7 +18,6 @@ use crate::progress::Progress;
 use crate::shape::Shape;
 use states::copying::load_state;
 use states::reading::level_of;
-use states::sizes::MOST_STATE_WORDS;
 use states::starting::JobStart;
 use states::starting::start_job;
 use store::Stored;
@@ -35,18 +34,19 @@ pub fn write_successor(new: &mut [u32], cur: &[u32], m: usize, k: usize, start: 
     start_job(new, m, k, start);
 }
 
-// Stores the state that follows `cur` in the half, which holds n states and has an index.
+// Stores the state that follows `cur`, made in `new`, in the half, which holds n states and has an index.
 pub fn store_successor(
     half: &mut [u32],
     heads: &mut [u32],
     n: usize,
     cur: &[u32],
+    new: &mut [u32],
     shape: Shape,
     start: JobStart,
 ) -> Progress
     requires { ⌜ (start .job < shape .jobs) × (shape .jobs ≤ mostJobs) × (1 ≤ shape .cores) × (shape .cores ≤ mostCores)
-        × (stateWords (shape .cores) (shape .jobs) ≤ length (now cur)) × (setOf (now cur) < 2 ^ shape .jobs)
-        × (started (stateIn shape (now cur)) (start .job) ≡ false) × Ordered (stateIn shape (now cur)) ⌝ }
+        × (stateWords (shape .cores) (shape .jobs) ≤ length (now cur)) × (stateWords (shape .cores) (shape .jobs) ≤ length (now new))
+        × (setOf (now cur) < 2 ^ shape .jobs) × (started (stateIn shape (now cur)) (start .job) ≡ false) × Ordered (stateIn shape (now cur)) ⌝ }
     requires { ⌜ (shape .capacity * stateWords (shape .cores) (shape .jobs) ≤ length (now half)) × (n ≤ shape .capacity)
         × SetsFit (shape .cores) (shape .jobs) (now half) n × Indexed (shape .cores) (shape .jobs) (now half) n (now heads) ⌝ }
     ensures { λ r. ⌜ ((seen : List Range) (c : ℕ) → progressOf (shape .cores) (shape .jobs) seen c r (now (half .exit))
@@ -58,10 +58,9 @@ pub fn store_successor(
 {
     let m = shape.cores;
     let k = shape.jobs;
-    let mut new = [0u32; MOST_STATE_WORDS];
-    write_successor(&mut new, cur, m, k, start);
-    match store_state(half, heads, n, shape.capacity, &new, m, k) {
+    write_successor(new, cur, m, k, start);
+    match store_state(half, heads, n, shape.capacity, new, m, k) {
         Stored::At(stored) => Progress::Going(stored),
-        Stored::Full => Progress::Full(level_of(&new, m, k)),
+        Stored::Full => Progress::Full(level_of(new, m, k)),
     }
 }

@@ -1,16 +1,20 @@
 -- How far the analysis has come, by what a step answers and by the words of the half and of the observed ranges. Assumes nothing.
 use Prim.Native.Nat.{ℕ, _*_, _≤_}
 use mathlib.Core.Path.{_≡_}
-use mathlib.Core.Bool.{true}
+use mathlib.Core.Bool.{true, cond}
 use mathlib.Core.List.{List}
+use lib.Dec.{ltb}
 use lib.ListN.{length}
-use Rattle.model.specs.Jobs.{Job}
-use Rattle.model.specs.States.{Range, State}
+use Rattle.model.specs.Jobs.{Job, job}
+use Rattle.model.specs.States.{Range, range, State}
 use Rattle.model.specs.Edges.{eligible, earliestStart, earliestFinish, latestFinish}
-use Rattle.model.specs.Exploration.{Exploration, going, full, miss, stateWords}
+use Rattle.model.specs.Exploration.{Exploration, going, full, miss, limited, stored, observed, stateWords}
 use Rattle.jobs.specs.internal.JobRow.{jobsOfRows, Setting}
 use Rattle.states.specs.declared.starting.JobStart.{JobStart}
 use Rattle.states.specs.internal.Slots.{stateOf, statesOf, Sound, AllSound}
+use Rattle.states.specs.internal.Writing.{afterStart}
+use Rattle.edges.specs.declared.Edge.{Edge}
+use Rattle.edges.specs.declared.Edge.the-variants.{NotEligible, Starts}
 use Rattle.store.specs.internal.Half.{Indexed}
 use Rattle.steps.specs.internal.Observed.{observedOf, Observed}
 use Rattle.steps.specs.declared.shape.Shape.{Shape}
@@ -58,13 +62,14 @@ pub record Leaves (js : List Job) (shape : Shape) (next : ℕ → Exploration) (
   pub sound : HalfAt js (shape .cores) (shape .jobs) (shape .capacity) r half heads
   pub observed : Observed (shape .jobs) seen
 
--- what is given where the edges of a state are explored: the jobs, the state, the half of the next level and its index, and the observed ranges
-pub record Explores (rows : List ℕ) (shape : Shape) (cur half : List ℕ) (n : ℕ) (seen heads : List ℕ) : Type 0 where
+-- what is given where the edges of a state are explored: the jobs, the state, the half of the next level and its index
+pub record Explores (rows : List ℕ) (shape : Shape) (cur half : List ℕ) (n : ℕ) (heads : List ℕ) : Type 0 where
   pub setting : Setting rows (shape .jobs) (shape .cores)
   pub words : stateWords (shape .cores) (shape .jobs) ≤ length cur
   pub sound : Sound (jobsIn shape rows) (shape .cores) (shape .jobs) cur
   pub target : Target (jobsIn shape rows) (shape .cores) (shape .jobs) (shape .capacity) half heads n
-  pub observed : Observed (shape .jobs) seen
+
+-- ---- an edge
 
 -- the job is eligible, and starts and finishes at these moments
 pub record Follows (js : List Job) (σ : State) (x : JobStart) : Type 0 where
@@ -72,3 +77,14 @@ pub record Follows (js : List Job) (σ : State) (x : JobStart) : Type 0 where
   pub start : x .start ≡ earliestStart js σ (x .job)
   pub earliest : x .earliest ≡ earliestFinish js σ (x .job)
   pub latest : x .latest ≡ latestFinish js σ (x .job)
+
+-- what was observed, widened by an edge
+abbrev pub observedBy : Edge → List Range → List Range
+observedBy NotEligible seen = seen
+observedBy (Starts x) seen = observed seen (x .job) (range (x .earliest) (x .latest))
+
+-- what follows an edge, once it was observed
+abbrev pub followed : List Job → ℕ → State → Edge → List State → List Range → ℕ → Exploration
+followed js cap σ NotEligible l seen c = going l seen c
+followed js cap σ (Starts x) l seen c =
+    cond (ltb (job js (x .job) .deadline) (x .latest)) (miss (x .job) (x .earliest) (x .latest)) (limited cap (afterStart σ x) (stored (afterStart σ x) l) seen c)

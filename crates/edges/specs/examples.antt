@@ -1,0 +1,2 @@
+-- Worked examples of words.
+pub mod Holders
