@@ -181,7 +181,8 @@ fn bound_of(free: u32, first: u32) -> u32
 }
 
 // (7) twc, the work-conserving bound; and for (5) the candidates that may hold another back before it, each in a word: its place in the order of priority, and
-// from when on it is certainly ready. A candidate whose latest release lies past the bound holds none back before it.
+// from when on it is certainly ready. A candidate whose latest release lies past the bound holds none back before it; one is left out where the bound that is
+// known by then tells so.
 pub fn survey(
     rows: &[u32],
     k: usize,
