@@ -1,8 +1,9 @@
 /*
- * editor IN OUT [--bell N --transpose SEMITONES [--follow]] [--due MILLISECONDS]: edits a phrase, as an editor's host program does.
+ * editor IN OUT [--bell N --transpose SEMITONES [--follow]] [--shift SEMITONES] [--due MILLISECONDS]: edits a phrase, as an editor's host program does.
  *
- * Reads the phrase file IN, sets the transposition of bell N (with --follow, also the key of each note that strikes it, which finds no bell otherwise),
- * moves all due times, and writes the phrase as the file OUT. Standard output gets what changed, and what the check says before and after.
+ * Reads the phrase file IN, sets the shift, which is added to the keys of all notes, sets the transposition of bell N (with --follow, also the key of each
+ * note that strikes it, which finds no bell otherwise), moves all due times, and writes the phrase as the file OUT. That has IN's version; but version 1 has
+ * no shift, so a shift other than 0 makes it version 2. Standard output gets what changed, and what the check says before and after.
  *
  * OUT is opened only when the whole new file is there. It may be IN; but a write that fails, as on a full disk, may leave it cut short.
  *
@@ -24,11 +25,12 @@
 
 enum { STATUS_WRITTEN = 0, STATUS_REFUSED = 1, STATUS_TROUBLE = 2 };
 
-#define USAGE "usage: editor IN OUT [--bell N --transpose SEMITONES [--follow]] [--due MILLISECONDS]\n"
+#define USAGE "usage: editor IN OUT [--bell N --transpose SEMITONES [--follow]] [--shift SEMITONES] [--due MILLISECONDS]\n"
 static const char help[] = USAGE
     "Edits the phrase of the file IN, writes it as the file OUT, and says what changed.\n"
     "  --bell N --transpose SEMITONES  sets the transposition of bell N, from 0 on, to so many semitones, as -3\n"
     "  --follow                        gives each note that strikes this bell its new key\n"
+    "  --shift SEMITONES               sets the shift of all notes to so many semitones, as -4; other than 0, it makes a version 1 file version 2\n"
     "  --due MILLISECONDS              moves all due times by so many milliseconds, as -150\n"
     "Exit status: 0 OUT is written, whatever the check says of it; 1 the phrase is refused, and OUT untouched; 2 trouble.\n";
 
@@ -38,7 +40,7 @@ struct number {
 };
 
 struct edit {
-    struct number bell, transpose, due;
+    struct number bell, transpose, shift, due;
     int follow;
 };
 
@@ -67,6 +69,8 @@ static int parse_option(const char *option, const char *value, struct edit *edit
         return parse_number(value, 0, UINT32_MAX, &edit->bell);
     if (strcmp(option, "--transpose") == 0)
         return parse_number(value, INT_MIN, INT_MAX, &edit->transpose);
+    if (strcmp(option, "--shift") == 0)
+        return parse_number(value, INT_MIN, INT_MAX, &edit->shift);
     if (strcmp(option, "--due") == 0)
         return parse_number(value, -(long long)UINT32_MAX, UINT32_MAX, &edit->due);
     return 0;
@@ -85,17 +89,26 @@ static int parse_edit(char **argument, struct edit *edit)
     }
     if (edit->bell.given != edit->transpose.given || (edit->follow && !edit->bell.given))
         return 0;
-    return edit->bell.given || edit->due.given;
+    return edit->bell.given || edit->shift.given || edit->due.given;
+}
+
+static void set_shift(struct phrase *phrase, int semitones)
+{
+    phrase->shift = phrase_transposition(semitones);
+    if (phrase->version == 1 && phrase->shift != 0)
+        phrase->version = 2;
 }
 
 static void transpose(struct phrase *phrase, uint32_t number, int semitones, int follow)
 {
     struct phrase_bell *bell = &phrase->bells[number];
     uint32_t i;
+    /* Where the bell can sound for no such key, phrase_write refuses the bell first; a key below 0 is too wide then, and finds no bell. */
+    uint32_t key = bell->key + (uint32_t)semitones - (uint32_t)phrase_semitones(phrase->shift);
     bell->transposition = phrase_transposition(semitones);
     for (i = 0; follow && i < phrase->note_count; i++)
         if (phrase->notes[i].bell == number)
-            phrase->notes[i].key = bell->key + (uint32_t)semitones; /* where this is no key, phrase_write refuses the bell first */
+            phrase->notes[i].key = key;
 }
 
 static void move_due_times(struct phrase *phrase, int64_t milliseconds)
@@ -111,15 +124,15 @@ static void move_due_times(struct phrase *phrase, int64_t milliseconds)
 /* The number of the bell or note whose record would start at this place of the file. */
 static unsigned record_at(const struct phrase *phrase, uint32_t place)
 {
-    uint32_t at = 7 + 7 * phrase->bell_count + 1, note = 0;
+    uint32_t bells = phrase->version == 1 ? 7 : 8, at = bells + 7 * phrase->bell_count + 1, note = 0;
     if (place < at)
-        return (place - 7) / 7;
+        return (place - bells) / 7;
     while (at < place && note < phrase->note_count)
         at += 14 + phrase->notes[note++].wait_count;
     return note;
 }
 
-/* What was read keeps all rules, so these four are all that an edit can break. */
+/* What was read keeps all rules, so these five are all that an edit can break. */
 static const char *reason(uint32_t number)
 {
     switch (number) {
@@ -129,19 +142,23 @@ static const char *reason(uint32_t number)
         return "an earlier bell sounds for the same key";
     case PHRASE_NO_BELL:
         return "no bell sounds for its key any more";
+    case PHRASE_SHIFT:
+        return "the shift is out of range";
     default:
         return "the due time is out of range";
     }
 }
 
-/* Says that a file is refused; with a phrase, which was to be written, also which of its records and why. */
+/* Says that a file is refused; with a phrase, which was to be written, also which of its records, for all but a shift, and why. */
 static int refuse(const char *name, uint64_t answer, const struct phrase *phrase)
 {
     uint32_t number = phrase_refusal(answer);
     fprintf(stderr, "editor: %s: ", name);
     print_answer(stderr, answer);
+    if (phrase != NULL && number != PHRASE_SHIFT)
+        fprintf(stderr, ": %s %u", number <= PHRASE_SAME_KEY ? "bell" : "note", record_at(phrase, phrase_place(answer)));
     if (phrase != NULL)
-        fprintf(stderr, ": %s %u: %s", number <= PHRASE_SAME_KEY ? "bell" : "note", record_at(phrase, phrase_place(answer)), reason(number));
+        fprintf(stderr, ": %s", reason(number));
     fprintf(stderr, "\n");
     return STATUS_REFUSED;
 }
@@ -149,6 +166,10 @@ static int refuse(const char *name, uint64_t answer, const struct phrase *phrase
 static void print_fields(const struct phrase *old, const struct phrase *edited)
 {
     unsigned i;
+    if (edited->version != old->version)
+        printf("version: %u -> %u\n", (unsigned)old->version, (unsigned)edited->version);
+    if (edited->shift != old->shift)
+        printf("shift: %d -> %d\n", phrase_semitones(old->shift), phrase_semitones(edited->shift));
     for (i = 0; i < edited->bell_count; i++)
         if (edited->bells[i].transposition != old->bells[i].transposition)
             printf("bell %u: transposition %d -> %d, sounding key %u -> %u\n", i, phrase_semitones(old->bells[i].transposition),
@@ -158,13 +179,23 @@ static void print_fields(const struct phrase *old, const struct phrase *edited)
             printf("note %u: key %u -> %u\n", i, (unsigned)old->notes[i].key, (unsigned)edited->notes[i].key);
 }
 
-/* How many bytes changed, and what the check says. The files have one length, for no edit here changes it. */
-static void print_files(struct bytes old, struct bytes edited)
+/* How many bytes changed; where another version has moved them, the length before and after. */
+static void print_bytes(struct bytes old, struct bytes edited)
 {
     size_t i, changed = 0;
-    for (i = 0; i < edited.length && i < old.length; i++)
+    if (edited.length != old.length) {
+        printf("bytes: %lu -> %lu\n", (unsigned long)old.length, (unsigned long)edited.length);
+        return;
+    }
+    for (i = 0; i < edited.length; i++)
         changed += edited.first[i] != old.first[i];
-    printf("bytes: %lu, %lu changed\nbefore: ", (unsigned long)edited.length, (unsigned long)changed);
+    printf("bytes: %lu, %lu changed\n", (unsigned long)edited.length, (unsigned long)changed);
+}
+
+/* What the check says. */
+static void print_verdicts(struct bytes old, struct bytes edited)
+{
+    printf("before: ");
     print_answer(stdout, phrase_check(old.first, old.length));
     printf("\nafter: ");
     print_answer(stdout, phrase_check(edited.first, edited.length));
@@ -195,6 +226,8 @@ static int edit_file(const char *in, const char *out, struct bytes old, const st
     if (edit->bell.given && edit->bell.value >= phrase.bell_count)
         return complain(in, "there is no such bell");
     edited = phrase;
+    if (edit->shift.given)
+        set_shift(&edited, (int)edit->shift.value);
     if (edit->bell.given)
         transpose(&edited, (uint32_t)edit->bell.value, (int)edit->transpose.value, edit->follow);
     if (edit->due.given)
@@ -210,7 +243,8 @@ static int edit_file(const char *in, const char *out, struct bytes old, const st
     print_fields(&phrase, &edited);
     if (edit->due.given)
         printf("due times: %u moved by %lld\n", (unsigned)edited.note_count, edit->due.value);
-    print_files(old, file);
+    print_bytes(old, file);
+    print_verdicts(old, file);
     return fflush(stdout) == 0 && !ferror(stdout) ? STATUS_WRITTEN : complain("standard output", strerror(errno));
 }
 

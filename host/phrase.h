@@ -49,16 +49,16 @@ extern "C" {
  */
 enum phrase_number {
     PHRASE_ACCEPTED = 0,
-    PHRASE_VERSION = 1,      /* not empty, and not version 1;                        place: 0 */
+    PHRASE_VERSION = 1,      /* not empty, and of a version other than 1 and 2;      place: 0 */
     PHRASE_COUNT = 2,        /* under 5 bytes, or the count of bytes is wrong;       place: 0 */
     PHRASE_END = 3,          /* a field or record passes the end, or bytes remain;   place: its first byte, or the first that remains */
     PHRASE_DRIVERS = 4,      /* not 1 to 8 drivers;                                  place: 5 */
-    PHRASE_BELLS = 5,        /* not 1 to 96 bells;                                   place: 6 */
+    PHRASE_BELLS = 5,        /* not 1 to 96 bells;                                   place: 6, in version 2: 7 */
     PHRASE_BELL_FIELD = 6,   /* a field of a bell is out of range;                   place: the bell's first byte */
     PHRASE_SAME_KEY = 7,     /* an earlier bell sounds for the same key;             place: the bell's first byte */
     PHRASE_STROKES = 8,      /* over 64 strokes;                                     place: the byte that says so */
     PHRASE_NOTE_LENGTH = 9,  /* a note's length is not 13 to 17;                     place: the note's first byte */
-    PHRASE_NO_BELL = 10,     /* no bell sounds for the key;                          place: the note's first byte */
+    PHRASE_NO_BELL = 10,     /* no bell sounds for the key plus the shift;           place: the note's first byte */
     PHRASE_TIMES = 11,       /* ra is over rb, or rb or d is over 3600000;           place: the note's first byte */
     PHRASE_WAITS = 12,       /* waits do not rise, or are not below the note's own;  place: the note's first byte */
     PHRASE_TABLE_FULL = 13,  /* a level has more states than the table has room for; place: the level */
@@ -66,7 +66,8 @@ enum phrase_number {
     PHRASE_TEXT_SHORT = 15,  /* the text is longer than its buffer: a report's length is 0. No call answers with it */
     PHRASE_FILE_SHORT = 16,  /* a written file is longer than its buffer;            place: 0. Only phrase_write answers with it */
     PHRASE_PLAYING = 17,     /* a playing's version, count or length is wrong;       place: 0. Only phrase_play answers with it */
-    PHRASE_OUTSIDE = 18      /* a playing's call or hold lies outside its range;     place: the smallest such stroke. Only phrase_play */
+    PHRASE_OUTSIDE = 18,     /* a playing's call or hold lies outside its range;     place: the smallest such stroke. Only phrase_play */
+    PHRASE_SHIFT = 19        /* not a shift of -24 to 24, or in version 1 not 0;     place: 6. Tried after 4 and before 5 */
 };
 
 /*
@@ -85,7 +86,7 @@ size_t phrase_report(const uint8_t *file, size_t file_len, uint8_t *text, size_t
 /*
  * phrase_check with a lent table of table_len words, which may hold anything.
  * The phrase has m drivers and K strokes: W = 2 + 2 m + 2 K, and S = table_len / (2 W), rounded down, is how many states a level may have. Afterwards the
- * first 2 S W words may hold anything; the others are unchanged. For refusals 1 to 12 no word changes.
+ * first 2 S W words may hold anything; the others are unchanged. For refusals 1 to 12 and 19 no word changes.
  */
 uint64_t phrase_check_with(const uint8_t *file, size_t file_len, uint32_t *table, size_t table_len);
 
@@ -96,7 +97,7 @@ size_t phrase_report_with(const uint8_t *file, size_t file_len, uint32_t *table,
 #define PHRASE_MOST_BELLS 96
 #define PHRASE_MOST_NOTES 64
 #define PHRASE_MOST_WAITS 4
-#define PHRASE_FILE_BYTES 1832
+#define PHRASE_FILE_BYTES 1833
 
 /* A bell. phrase_write reads what is neither derived nor spare. */
 struct phrase_bell {
@@ -111,13 +112,13 @@ struct phrase_bell {
 
 /* A note. */
 struct phrase_note {
-    uint32_t key;                      /* as written */
+    uint32_t key;                      /* as written, without the shift */
     uint32_t earliest_call;            /* ra */
     uint32_t latest_call;              /* rb */
     uint32_t due;                      /* d */
     uint32_t wait_count;               /* how many strokes the note lists to wait for, without the one that its bell adds */
     uint32_t waits[PHRASE_MOST_WAITS]; /* these, rising; then 0 */
-    uint32_t bell;                     /* derived: the number of the bell that it strikes */
+    uint32_t bell;                     /* derived: the number of the bell that it strikes, which sounds for its key plus the shift */
 };
 
 /* A phrase: 1,317 words. Bells from bell_count on, notes from note_count on and waits from wait_count on are 0 when read, and phrase_write ignores them. */
@@ -126,7 +127,7 @@ struct phrase {
     uint32_t drivers; /* m */
     uint32_t bell_count;
     uint32_t note_count; /* K */
-    uint32_t spare;      /* 0 when read; leave it so */
+    uint32_t shift;      /* semitones that are added to each note's key, as the file's byte: 252 is -4. A version 1 file has none, and it is 0 */
     struct phrase_bell bells[PHRASE_MOST_BELLS];
     struct phrase_note notes[PHRASE_MOST_NOTES];
 };
@@ -144,22 +145,24 @@ typedef char phrase_is_its_words[
     && offsetof(struct phrase_note, bell) == 36
     && offsetof(struct phrase, version) == 0 && offsetof(struct phrase, drivers) == 4
     && offsetof(struct phrase, bell_count) == 8 && offsetof(struct phrase, note_count) == 12
-    && offsetof(struct phrase, spare) == 16 && offsetof(struct phrase, bells) == 20
+    && offsetof(struct phrase, shift) == 16 && offsetof(struct phrase, bells) == 20
     && offsetof(struct phrase, notes) == 2708 ? 1 : -1];
 
 /*
  * Reads a file into phrase, every word of which is set: what the file holds, what is derived from it, and 0 in all others.
- * Gives 0, or the number of one of the refusals 1 to 12 times 4294967296 plus its place, as phrase_check does; then every word of phrase is 0.
+ * Gives 0, or the number of one of the refusals 1 to 12 and 19 times 4294967296 plus its place, as phrase_check does; then every word of phrase is 0.
  */
 uint64_t phrase_read(const uint8_t *file, size_t file_len, struct phrase *phrase);
 
 /*
- * Writes a phrase as a file of its version.
+ * Writes a phrase as a file of its version, 1 or 2.
  * Gives the file's length, which is below 4294967296, so that phrase_refusal of it is 0; the bytes of file past that length are untouched. Otherwise gives a
- * refusal's number times 4294967296 plus its place, and all of file is untouched: the first of 1, 4, 5, of the bells' 6 and 7, of 8 and of the notes' 9, 10, 11
- * and 12, in the order of the file, at the place where reading would find the field; then 16 at 0 where file_len is less than the file's length.
- * A field that is too wide for its bytes is refused like one out of range, and never cut: 6 for a rank or a transposition above 255, 9 for more than four
- * waits. What was read from a file is written as that very file; what was written is read as the same phrase.
+ * refusal's number times 4294967296 plus its place, and all of file is untouched: the first of 1, 4, 19, 5, of the bells' 6 and 7, of 8 and of the notes' 9,
+ * 10, 11 and 12, in the order of the file, at the place where reading would find the field; then 16 at 0 where file_len is less than the file's length.
+ * A version 1 file has no place for a shift, so one other than 0 is refused there, with 19 at 6.
+ * A field that is too wide for its bytes is refused like one out of range, and never cut: 19 for a shift that is too wide, 6 for a rank or a transposition
+ * above 255, 9 for more than four waits, 10 for a key above 255, whatever the shift. What was read from a file is written as that very file; what was written
+ * is read as the same phrase.
  */
 uint64_t phrase_write(const struct phrase *phrase, uint8_t *file, size_t file_len);
 
@@ -171,20 +174,20 @@ uint64_t phrase_write(const struct phrase *phrase, uint8_t *file, size_t file_le
  * The playing, big-endian: a version byte, 1; a four-byte count of the bytes after it; then for each stroke, in the file's order, a call moment of four bytes
  * and a hold of two. starts and ends have PHRASE_MOST_NOTES words each, every one of which is set: the start and the end of each stroke in the run of the
  * dispatch rule, and 0 from K on.
- * Gives 0, or a refusal's number times 4294967296 plus its place; then all words of starts and ends are 0. First come the refusals 1 to 12 of the file, as
- * phrase_read has them; then 17 at 0, for a playing of under 5 bytes, of another version, with a wrong count or with other than 6 K bytes after it; then 18 at
- * the smallest stroke whose call or hold lies outside the phrase's range.
+ * Gives 0, or a refusal's number times 4294967296 plus its place; then all words of starts and ends are 0. First come the refusals 1 to 12 and 19 of the
+ * file, as phrase_read has them; then 17 at 0, for a playing of under 5 bytes, of another version, with a wrong count or with other than 6 K bytes after it;
+ * then 18 at the smallest stroke whose call or hold lies outside the phrase's range.
  * Where a check accepts the phrase, with whatever table, these ends lie in the ranges that it reports, and are in time.
  */
 uint64_t phrase_play(const uint8_t *file, size_t file_len, const uint8_t *playing, size_t playing_len, uint32_t *starts, uint32_t *ends);
 
-/* A transposition in semitones, from the file's byte: -128 to 127. 128 for a wider number, which phrase_write refuses. */
+/* A transposition or a shift in semitones, from the file's byte: -128 to 127. 128 for a wider number, which phrase_write refuses. */
 static inline int phrase_semitones(uint32_t transposition)
 {
     return transposition < 128 ? (int)transposition : transposition < 256 ? (int)transposition - 256 : 128;
 }
 
-/* A transposition as the file's byte. 256, which phrase_write refuses with 6, where it is no signed byte. */
+/* A transposition or a shift as the file's byte. 256, which phrase_write refuses, with 6 or 19, where it is no signed byte. */
 static inline uint32_t phrase_transposition(int semitones)
 {
     return semitones < -128 || semitones > 127 ? 256u : (uint32_t)semitones & 0xFFu;

@@ -119,11 +119,12 @@ static int play(const struct input *file, const struct input *playing, const cha
 {
     uint32_t starts[PHRASE_MOST_NOTES], ends[PHRASE_MOST_NOTES];
     uint64_t answer = phrase_play(file->bytes.first, file->bytes.length, playing->bytes.first, playing->bytes.length, starts, ends);
+    uint32_t number = phrase_refusal(answer);
     size_t strokes, i;
 
-    if (phrase_refusal(answer) >= PHRASE_PLAYING)
+    if (number == PHRASE_PLAYING || number == PHRASE_OUTSIDE)
         print_verdict(playing->name, answer);
-    if (phrase_refusal(answer) != PHRASE_ACCEPTED)
+    if (number != PHRASE_ACCEPTED)
         return STATUS_REFUSED;
     strokes = (playing->bytes.length - PLAYING_HEAD) / PLAYING_STROKE; /* a playing that is not refused has as many as the phrase */
     for (i = 0; i < strokes; i++) {

@@ -80,12 +80,19 @@ runs() {
 
 p=examples/phrase-p.phrase
 etude=examples/etude.phrase
+down=examples/etude-down.phrase
 : >"$folder/empty"
 { head -c 35 "$p"; printf '\x06'; tail -c +37 "$p"; } >"$folder/late"
 { head -c 7 "$p"; printf '\x0B'; tail -c +9 "$p"; } >"$folder/bell"
 head -c 300000 /dev/zero >"$folder/long"
 # A right count, 299995 (000493DB), and bytes that remain.
 { printf '\x01\x00\x04\x93\xDB'; tail -c +6 "$p"; head -c 299950 /dev/zero; } >"$folder/remains"
+
+# P in version 2, shifted down by four semitones and written as much higher; and shifted too far.
+{
+  printf '\x02\0\0\0\x2E\x01\xFC'; head -c 23 "$p" | tail -c +7; printf '\x40'; head -c 37 "$p" | tail -c +25; printf '\x4E'; tail -c +39 "$p"
+} >"$folder/shifted"
+{ head -c 6 "$folder/shifted"; printf '\x19'; tail -c +8 "$folder/shifted"; } >"$folder/shift"
 
 # Playings of P: stroke 0 called while stroke 1 holds the driver, and at its latest; stroke 1 held too long. And a phrase without strokes, with its playing.
 printf '\x01\0\0\0\x0C\0\0\0\x01\0\x02\0\0\0\0\0\x04' >"$folder/playing"
@@ -113,11 +120,16 @@ player_usage='usage: player FILE [WORDS] [--play PLAYING]\n'
 
 # play_all HOW: everything that the player can answer without a playing.
 play_all() {
-  local text_p text_etude f=$folder usage=$player_usage words
+  local text_p text_etude text_down f=$folder usage=$player_usage words
   text_p=$(cat examples/phrase-p.report)'\n'
   text_etude=$(cat examples/etude.report)'\n'
+  text_down=$(cat examples/etude-down.report)'\n'
   plays "$1" 0 "$text_p" "player: $p: accepted\n" "$p"
   plays "$1" 0 "$text_etude" "player: examples/etude.phrase: accepted\n" examples/etude.phrase
+  plays "$1" 0 "$text_down" "player: $down: accepted\n" "$down"
+  plays "$1" 0 "$text_p" "player: $f/shifted: accepted\n" "$f/shifted" 32
+  plays "$1" 1 'refused 13 level 1\n' "player: $f/shifted: refused, number 13, level 1\n" "$f/shifted" 31
+  plays "$1" 1 'refused 19 at 6\n' "player: $f/shift: refused, number 19, byte 6\n" "$f/shift"
   for words in 32 33 16384 100000; do
     plays "$1" 0 "$text_p" "player: $p: accepted\n" "$p" "$words"
   done
@@ -139,12 +151,15 @@ play_all() {
 
 # play_playings HOW: playings that are worked out, also where the check refuses the phrase, wherever the option stands.
 play_playings() {
-  local f=$folder text_p text_etude late
+  local f=$folder text_p text_etude text_down late
   text_p=$(cat examples/phrase-p.report)'\nstroke 0 start 4 end 6 reported 2..7\nstroke 1 start 0 end 4 reported 4..6\n'
   text_etude=$(cat examples/etude.report)'\n'$(cat examples/etude.played)'\n'
+  text_down=$(cat examples/etude-down.report)'\n'$(cat examples/etude.played)'\n'
   late='stroke 0 start 5 end 7\nstroke 1 start 0 end 4\n'
   plays "$1" 0 "$text_etude" "player: $etude: accepted\n" "$etude" --play examples/etude.playing
   plays "$1" 0 "$text_etude" "player: $etude: accepted\n" --play examples/etude.playing "$etude" 131072
+  plays "$1" 0 "$text_down" "player: $down: accepted\n" "$down" --play examples/etude.playing
+  plays "$1" 0 "$text_p" "player: $f/shifted: accepted\n" "$f/shifted" --play "$f/playing"
   plays "$1" 0 "$text_p" "player: $p: accepted\n" "$p" --play "$f/playing"
   plays "$1" 0 "$text_p" "player: $p: accepted\n" "$p" 32 --play "$f/playing"
   plays "$1" 0 "$text_p" "player: $p: accepted\n" "$p" --play "$f/playing" 32
@@ -169,6 +184,8 @@ play_refused() {
   plays "$1" 1 'refused 14 stroke 0 ends 6..7\n' "${late}player: $f/playing-outside: refused, number 18, stroke 1\n" "$f/late" --play "$f/playing-outside"
   plays "$1" 1 'refused 6 at 7\n' "player: $f/bell: refused, number 6, byte 7\n" "$f/bell" --play "$f/playing"
   plays "$1" 1 'refused 2 at 0\n' "player: $f/empty: refused, number 2, byte 0\n" "$f/empty" --play "$f/empty"
+  plays "$1" 1 'refused 19 at 6\n' "player: $f/shift: refused, number 19, byte 6\n" "$f/shift" --play "$f/playing"
+  plays "$1" 1 'refused 19 at 6\n' "player: $f/shift: refused, number 19, byte 6\n" "$f/shift" --play "$f/empty"
 }
 
 # play_trouble HOW: playings that cannot be read, and wrong usage.
@@ -208,6 +225,17 @@ changed "$p" 35 06 49 05 >"$folder/sooner"
 changed "$p" 33 36 34 EE 35 80 47 36 48 EE 49 7F >"$folder/latest"
 changed "$p" 15 05 35 11 37 43 49 10 >"$folder/both"
 changed "$etude" 36 FF 107 46 206 46 >"$folder/etude-up"
+changed "$down" 37 FF 108 46 207 46 >"$folder/down-up"
+changed "$folder/shifted" 36 9D 50 9C >"$folder/shifted-later"
+# Bells for C4 and D4 and a note of C4; and version 2 of it: shifted so that the note strikes D4; with no shift; with another, and bell 0 and the note moved.
+printf '\x01\0\0\0\x1F\x01\x02\x3C\0\0\x01\0\x01\0\x3E\0\0\x01\0\x01\0\x01\x0D\x3C\0\0\0\0\0\0\0\0\0\0\0\x09' >"$folder/two"
+{ printf '\x02\0\0\0\x20\x01\x02'; tail -c +7 "$folder/two"; } >"$folder/two-up"
+changed "$folder/two-up" 6 00 >"$folder/two-back"
+changed "$folder/two-up" 6 03 9 05 24 3E >"$folder/two-follow"
+# One bell and one note, shifted as far as can be, up and down.
+printf '\x02\0\0\0\x19\x01\x18\x01\x24\0\0\x01\0\x01\0\x01\x0D\x0C\0\0\0\0\0\0\0\0\0\0\0\x09' >"$folder/far-up"
+changed "$folder/far-up" 6 E8 8 5F 17 77 >"$folder/far-down"
+changed "$folder/far-down" 9 18 17 8F >"$folder/far-down-up"
 printf 'kept' >"$folder/kept"
 out=$folder/edited
 
@@ -262,6 +290,20 @@ edit_all() {
   writes "$1" "$f/etude-up" "$text" "$etude" --bell 4 --transpose -1 --follow
   text='bell 4: transposition -1 -> -2, sounding key 70 -> 69\nnote 3: key 70 -> 69\nnote 10: key 70 -> 69\nbytes: 407, 3 changed\n'
   writes "$1" "$etude" "$text" "$f/etude-up" --bell 4 --transpose -2 --follow
+  text='bell 4: transposition -2 -> -1, sounding key 65 -> 66\nnote 3: key 69 -> 70\nnote 10: key 69 -> 70\nbytes: 408, 3 changed\n'
+  writes "$1" "$f/down-up" "$text" "$down" --bell 4 --transpose -1 --follow
+  text='bell 4: transposition -1 -> -2, sounding key 66 -> 65\nnote 3: key 70 -> 69\nnote 10: key 70 -> 69\nbytes: 408, 3 changed\n'
+  writes "$1" "$down" "$text" "$f/down-up" --bell 4 --transpose -2 --follow
+  writes "$1" "$f/shifted-later" 'due times: 2 moved by 150\nbytes: 51, 2 changed\n' "$f/shifted" --due 150
+  writes "$1" "$f/two-up" 'version: 1 -> 2\nshift: 0 -> 2\nbytes: 36 -> 37\n' "$f/two" --shift 2
+  writes "$1" "$f/two" 'bytes: 36, 0 changed\n' "$f/two" --shift 0
+  writes "$1" "$f/two-back" 'shift: 2 -> 0\nbytes: 37, 1 changed\n' "$f/two-up" --shift 0
+  writes "$1" "$f/two-up" 'shift: 0 -> 2\nbytes: 37, 1 changed\n' "$f/two-back" --shift 2
+  writes "$1" "$down" 'bytes: 408, 0 changed\n' "$down" --shift -4
+  text='version: 1 -> 2\nshift: 0 -> 3\nbell 0: transposition 0 -> 5, sounding key 60 -> 65\nnote 0: key 60 -> 62\nbytes: 36 -> 37\n'
+  writes "$1" "$f/two-follow" "$text" "$f/two" --bell 0 --transpose 5 --follow --shift 3
+  text='bell 0: transposition 0 -> 24, sounding key 95 -> 119\nnote 0: key 119 -> 143\nbytes: 30, 2 changed\n'
+  writes "$1" "$f/far-down-up" "$text" "$f/far-down" --bell 0 --transpose 24 --follow
   rm "$out"
   text='due times: 2 moved by 150\nbytes: 50, 2 changed\nbefore: accepted\nafter: accepted\n'
   runs "$1: editor, a new file" 0 "$text" '' "${editor[@]}" "$p" "$out" --due 150
@@ -278,19 +320,31 @@ edit_refused() {
   edits "$1" 1 '' "editor: $f/empty: refused, number 2, byte 0\n" "$f/kept" "$f/empty" --due 1
   edits "$1" 1 '' "editor: $f/long: refused, number 1, byte 0\n" "$f/kept" "$f/long" --due 1
   edits "$1" 1 '' "editor: $f/remains: refused, number 3, byte 50\n" "$f/kept" "$f/remains" --bell 0 --transpose 0
+  edits "$1" 1 '' "editor: $f/shift: refused, number 19, byte 6\n" "$f/kept" "$f/shift" --shift 0
   for number in 25 -25 127 -128 128 254 -129 256 2147483647 -2147483648; do
     refuses "$1" '6, byte 21: bell 2: the transposition, or the key that it sounds for, is out of range' "$f/third" --bell 2 --transpose "$number"
     refuses "$1" '6, byte 7: bell 0: the transposition, or the key that it sounds for, is out of range' "$p" --bell 0 --transpose "$number" --follow
+    refuses "$1" '6, byte 15: bell 1: the transposition, or the key that it sounds for, is out of range' "$f/shifted" --bell 1 --transpose "$number" --follow
+    refuses "$1" '19, byte 6: the shift is out of range' "$f/two" --shift "$number"
+    refuses "$1" '19, byte 6: the shift is out of range' "$down" --shift "$number" --bell 0 --transpose 25 --follow --due 3600000
   done
   refuses "$1" '7, byte 21: bell 2: an earlier bell sounds for the same key' "$f/third" --bell 2 --transpose 10
   refuses "$1" '7, byte 21: bell 2: an earlier bell sounds for the same key' "$f/third" --bell 0 --transpose 4
   refuses "$1" '10, byte 106: note 3: no bell sounds for its key any more' "$etude" --bell 4 --transpose -1
   refuses "$1" '10, byte 190: note 9: no bell sounds for its key any more' "$etude" --bell 7 --transpose 11
+  refuses "$1" '7, byte 15: bell 1: an earlier bell sounds for the same key' "$f/shifted" --bell 1 --transpose -2
+  refuses "$1" '10, byte 107: note 3: no bell sounds for its key any more' "$down" --bell 4 --transpose -1
+  refuses "$1" '10, byte 79: note 1: no bell sounds for its key any more' "$down" --shift 0 --bell 0 --transpose 4 --follow
+  refuses "$1" '10, byte 65: note 0: no bell sounds for its key any more' "$etude" --shift -4
+  refuses "$1" '10, byte 23: note 0: no bell sounds for its key any more' "$f/two" --shift -2
+  refuses "$1" '10, byte 16: note 0: no bell sounds for its key any more' "$f/far-up" --bell 0 --transpose -24 --follow # its key would be -12
   for number in 3599994 4294967288 4294967289 4294967290 4294967295 -8 -4294967295; do
     refuses "$1" '11, byte 22: note 0: the due time is out of range' "$p" --due "$number"
   done
   refuses "$1" '11, byte 36: note 1: the due time is out of range' "$p" --due -7
   refuses "$1" '11, byte 393: note 23: the due time is out of range' "$etude" --due 3597441
+  refuses "$1" '11, byte 37: note 1: the due time is out of range' "$f/shifted" --due -7
+  refuses "$1" '11, byte 394: note 23: the due time is out of range' "$down" --due 3597441
   rm "$out"
   runs "$1: editor, no new file" 1 '' "editor: $out: refused, number 11, byte 22: note 0: the due time is out of range\n" "${editor[@]}" "$p" "$out" --due -8
   [ ! -e "$out" ] || status=1
@@ -299,7 +353,8 @@ edit_refused() {
 
 # edit_trouble HOW: files that cannot be read or written, a bell that is not there, and wrong usage.
 edit_trouble() {
-  local f=$folder options list usage='usage: editor IN OUT [--bell N --transpose SEMITONES [--follow]] [--due MILLISECONDS]'
+  local f=$folder options list usage
+  usage='usage: editor IN OUT [--bell N --transpose SEMITONES [--follow]] [--shift SEMITONES] [--due MILLISECONDS]'
   troubles "$1" "editor: $f/missing: No such file or directory" "$f/missing" --due 1
   troubles "$1" "editor: $f: Is a directory" "$f" --due 1
   for options in 2 95 96 4294967295; do
@@ -312,7 +367,8 @@ edit_trouble() {
     troubles "$1" "$usage" "$p" --due "$options"
   done
   for options in '' '--bell' '--bell 0' '--transpose 0' '--due' '--follow' '--due 1 --follow' '--due 1 2' '--key 1' '--due 1 --bell 0' '--due 1 --help' \
-    '--bell -1 --transpose 0' '--bell 4294967296 --transpose 0' '--bell 0 --transpose 2147483648' '--bell 0 --transpose -2147483649'; do
+    '--bell -1 --transpose 0' '--bell 4294967296 --transpose 0' '--bell 0 --transpose 2147483648' '--bell 0 --transpose -2147483649' \
+    '--shift' '--shift x' '--shift 1 2' '--shift +1' '--shift 1 --follow' '--shift 1 --bell 0' '--shift 2147483648' '--shift -2147483649'; do
     read -ra list <<<"$options"
     troubles "$1" "$usage" "$p" "${list[@]}"
   done
@@ -381,7 +437,7 @@ strokes 8 >"$folder/eight-bells"
 for binding in now lazy; do
   if build "tests/host/stack.c builds, $binding" tests/host/stack.c "$folder/stack-$binding" -O2 -pthread "-Wl,-z,$binding"; then
     passes "the stack, $binding" env -u LD_BIND_NOW "$folder/stack-$binding" "$binding" \
-      examples/*.phrase "$folder"/{late,bell,empty,one-bell,eight-bells} || true
+      examples/*.phrase "$folder"/{late,bell,empty,one-bell,eight-bells,shifted,shift} || true
     grep '^stack: .* KiB$' "$folder/log" || true
   fi
 done
@@ -408,7 +464,7 @@ while read -r name number; do
   fi
   verdict "a header with $name $((number + 1)) is seen by names.c: exit status $status, not 1" $((status != 1)) "$folder/log"
 done < <(sed -nE 's/^(#define|   ) (PHRASE_[A-Z_]+)( =)? ([0-9]+).*/\2 \4/p' host/phrase.h)
-verdict "the header has $names names with numbers, not 26" $((names != 26))
+verdict "the header has $names names with numbers, not 27" $((names != 27))
 
 echo '#include "phrase.h"' >"$folder/other.c"
 # misfits WHAT: the wrong header does not compile, and it is the struct that is at fault.
@@ -505,6 +561,8 @@ if command -v valgrind >/dev/null; then
     player=("${grind[@]}" "$folder/player")
     plays valgrind 0 "$(cat examples/phrase-p.report)\n" "player: $p: accepted\n" "$p"
     plays valgrind 0 "$(cat examples/etude.report)\n" "player: examples/etude.phrase: accepted\n" examples/etude.phrase
+    plays valgrind 0 "$(cat examples/etude-down.report examples/etude.played)\n" "player: $down: accepted\n" "$down" --play examples/etude.playing
+    plays valgrind 1 'refused 19 at 6\n' "player: $folder/shift: refused, number 19, byte 6\n" "$folder/shift" --play "$folder/playing"
     plays valgrind 1 'refused 13 level 1\n' "player: $p: refused, number 13, level 1\n" "$p" 31
     plays valgrind 1 'refused 14 stroke 0 ends 6..7\n' "player: $folder/late: refused, number 14, stroke 0\n" "$folder/late"
     plays valgrind 1 'refused 2 at 0\n' "player: $folder/empty: refused, number 2, byte 0\n" "$folder/empty" 0
@@ -521,6 +579,7 @@ if command -v valgrind >/dev/null; then
     edit_all valgrind
     edits valgrind 1 '' "editor: $folder/bell: refused, number 6, byte 7\n" "$folder/kept" "$folder/bell" --due 1
     refuses valgrind '10, byte 190: note 9: no bell sounds for its key any more' "$etude" --bell 7 --transpose 11
+    refuses valgrind '19, byte 6: the shift is out of range' "$down" --shift 25
     troubles valgrind "editor: $p: there is no such bell" "$p" --bell 2 --transpose 0
   fi
   for test in buffers edits playings names; do
@@ -558,6 +617,13 @@ int main()
     const uint8_t due[] = {0x01, 0, 0, 0, 10, 1, 1, 62, 254, 0, 1, 0, 1, 0, 0};
     bool edited = phrase_write(&read, again, 50) == sizeof due && std::equal(due, due + sizeof due, again) && phrase_read(due, sizeof due, &read) == 0
                   && read.bells[0].sounding == 60 && phrase_semitones(read.bells[0].transposition) == -2;
+    read.version = 2;
+    read.shift = phrase_transposition(-4);
+    const uint8_t shifted[] = {0x02, 0, 0, 0, 11, 1, 252, 1, 62, 254, 0, 1, 0, 1, 0, 0};
+    bool moved = phrase_write(&read, again, 50) == sizeof shifted && std::equal(shifted, shifted + sizeof shifted, again)
+                 && phrase_read(shifted, sizeof shifted, &read) == 0 && phrase_semitones(read.shift) == -4 && phrase_check(shifted, sizeof shifted) == 0;
+    read.version = 1;
+    moved = moved && phrase_refusal(phrase_write(&read, again, 50)) == PHRASE_SHIFT;
     const uint8_t playing[] = {0x01, 0, 0, 0, 0};
     uint32_t starts[PHRASE_MOST_NOTES], ends[PHRASE_MOST_NOTES];
     bool played = phrase_play(due, sizeof due, playing, sizeof playing, starts, ends) == 0 && std::count(starts, starts + PHRASE_MOST_NOTES, 0u) == 64
@@ -565,7 +631,7 @@ int main()
                   && phrase_refusal(phrase_play(due, sizeof due, playing, 4, starts, ends)) == PHRASE_PLAYING;
     const std::vector<uint8_t> none;
     bool empty = phrase_check(none.empty() ? file : none.data(), none.size()) == PHRASE_COUNT * UINT64_C(4294967296);
-    return refused && same && written && unread && edited && played && empty ? 0 : 1;
+    return refused && same && written && unread && edited && moved && played && empty ? 0 : 1;
 }
 END
   if passes 'phrase.h builds as C++' g++ -std=c++11 -Wall -Wextra -Wpedantic -Werror -I host "$folder/host.cpp" "$library" "${libraries[@]}" \

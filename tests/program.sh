@@ -1,6 +1,7 @@
 #!/usr/bin/env bash
-# Runs the program phrasecheck on every example of document 01 that it can show, on examples/ and at the limits of its table and its input, and compares
-# what it prints byte by byte. PHRASECHECK names another program than target/bin/phrasecheck, which `rt check phrasecheck` builds.
+# Runs the program phrasecheck on every example of document 01 that it can show, on those of version 2 (request 104), on examples/ and at the limits of its
+# table and its input, and compares what it prints byte by byte. PHRASECHECK names another program than target/bin/phrasecheck, which `rt check phrasecheck`
+# builds.
 set -euo pipefail
 cd "$(dirname "$0")/.."
 program=${PHRASECHECK:-target/bin/phrasecheck}
@@ -32,11 +33,11 @@ bytes() {
   printf "$(sed 's/../\\x&/g' <<<"$hex")"
 }
 
-# counted HEX: version and count before what the count counts.
+# counted HEX [VERSION]: version, 01 if not given, and count before what the count counts.
 counted() {
   local hex
   hex=$(digits <<<"$1")
-  printf '01 %08X %s' $((${#hex} / 2)) "$hex"
+  printf '%s %08X %s' "${2:-01}" $((${#hex} / 2)) "$hex"
 }
 
 # with HEX PLACE BYTE [PLACE BYTE]..: HEX with bytes changed.
@@ -89,7 +90,7 @@ shows() {
 
 # ---- The examples that are kept as files ----
 
-for example in phrase-p etude; do
+for example in phrase-p etude etude-down; do
   bytes "$(cat "examples/$example.hex")" >"$folder/in"
   compare "examples/$example.phrase is made of $example.hex" "$folder/in" "examples/$example.phrase"
   prints "examples/$example.phrase" "examples/$example.phrase" "examples/$example.report"
@@ -121,6 +122,38 @@ shows 'the empty file' '' 'refused 2 at 0'
 shows 'a count one too large' "$(with "$P" 4 2E)" 'refused 2 at 0'
 shows 'bytes remain' "$(with "$P" 4 2E) 00" 'refused 3 at 50'
 shows 'due before it is called' "$(with "$P" 27 05 35 04)" 'refused 14 stroke 0 ends 7..7'
+
+# ---- Version 2: P shifted down by four semitones and written as much higher, and the refusals, with the shift between 4 and 5 ----
+
+S='02 0000002E 01 FC 02 3C0000020002 01 3E0C00040004 02 02 0D 40 00000000 00000005 00000007 0D 4E 00000000 00000000 00000006'
+
+shows 'P shifted' "$S" \
+  'stroke 0 key C4 bell 0 ends 2..7 response 2..7 due 7' \
+  'stroke 1 key D5 bell 1 ends 4..6 response 4..6 due 6' \
+  'accepted strokes 2 states 4 hold 6'
+shows 'version 0' "$(with "$P" 0 00)" 'refused 1 at 0'
+shows 'version 3' "$(with "$S" 0 03)" 'refused 1 at 0'
+shows 'version 2, row 2' '02 00 00' 'refused 2 at 0'
+shows 'version 2, no m' '02 00000000' 'refused 3 at 5'
+shows 'version 2, row 4' '02 00000003 00 19 00' 'refused 4 at 5'
+shows 'no shift' '02 00000001 01' 'refused 3 at 6'
+for shift in 19 E7 7F 80; do
+  shows "shift $shift" "$(with "$S" 6 "$shift")" 'refused 19 at 6'
+  shows "shift $shift, no bell count" "02 00000002 01 $shift" 'refused 19 at 6'
+  shows "shift $shift, no bells" "02 00000003 01 $shift 00" 'refused 19 at 6'
+done
+shows 'no bell count' '02 00000002 01 00' 'refused 3 at 7'
+shows 'version 2, row 5' '02 00000003 01 00 00' 'refused 5 at 7'
+shows 'version 2, row 6' "$(with "$S" 8 0B)" 'refused 6 at 8'
+shows 'version 2, row 7' "$(with "$S" 16 FE)" 'refused 7 at 15'
+shows 'version 2, row 8' "$(with "$S" 22 41)" 'refused 8 at 22'
+shows 'version 2, row 9' "$(with "$S" 23 0C)" 'refused 9 at 23'
+shows 'version 2, row 10' "$(with "$S" 38 42)" 'refused 10 at 37'
+shows 'version 2, row 10, the shift' "$(with "$S" 6 FB)" 'refused 10 at 23'
+shows 'version 2, row 11' "$(with "$S" 28 06)" 'refused 11 at 23'
+shows 'version 2, row 12' "$(with "$S" 4 2F 37 0E) 01" 'refused 12 at 37'
+shows 'version 2, row 14' "$(with "$S" 36 06)" 'refused 14 stroke 0 ends 6..7'
+shows 'version 2, bytes remain' "$(with "$S" 4 2F) 00" 'refused 3 at 51'
 
 # Row 13 with 16,384 words: on one driver any of K strokes may go first, so level 1 has K states. There is room for 62 with K = 64, for 63 with K = 63.
 all_go_first() {
@@ -189,11 +222,16 @@ shows 'M7' "$(counted "01 02 3C00 0001 0001 01 3E00 0001 0001 01 02 0D 3C 000000
   'accepted strokes 2 states 3 hold 2'
 shows 'M8' "$(counted '01 01 3C00 0001 0001 01 00')" 'accepted strokes 0 states 1 hold 0'
 
-# ---- Names: a phrase of one stroke for every key, 12 to 119 ----
+# ---- Names: a phrase of one stroke for every key, 12 to 119, as it is written, and shifted there from key 24, 73 or 122 ----
 
 names=(C C# D D# E F F# G G# A A# B)
 for ((key = 12; key < 120; key++)); do
   shows "the name of key $key" "$(counted "$(printf '01 01 %02X 00 0001 0001 00 01 0D %02X 00000000 00000000 00000001' "$key" "$key")")" \
+    "stroke 0 key ${names[key % 12]}$((key / 12 - 1)) bell 0 ends 1..1 response 1..1 due 1" \
+    'accepted strokes 1 states 2 hold 1'
+  shift=$((key % 49 - 24))
+  shows "the name of key $key, shifted by $shift" "$(counted "$(printf '01 %02X 01 %02X 00 0001 0001 00 01 0D %02X 00000000 00000000 00000001' \
+    $((shift & 255)) "$key" $((key - shift)))" 02)" \
     "stroke 0 key ${names[key % 12]}$((key / 12 - 1)) bell 0 ends 1..1 response 1..1 due 1" \
     'accepted strokes 1 states 2 hold 1'
 done
@@ -212,11 +250,11 @@ echo 'refused 1 at 0' >"$folder/version"
 padded "$(with "$P" 3 0F 4 FB)" 4096
 prints '4,096 bytes, the count right' "$folder/in" "$folder/remain"
 padded '09' 4096
-prints '4,096 bytes, not version 1' "$folder/in" "$folder/version"
+prints '4,096 bytes, another version' "$folder/in" "$folder/version"
 padded "$(with "$P" 3 0F 4 FC)" 4097
 prints '4,097 bytes, the count right' "$folder/in" "$folder/too-long"
 padded '09' 4097
-prints '4,097 bytes, not version 1' "$folder/in" "$folder/too-long"
+prints '4,097 bytes, another version' "$folder/in" "$folder/too-long"
 padded "$P" 1000000
 prints '1,000,000 bytes' "$folder/in" "$folder/too-long"
 

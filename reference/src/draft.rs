@@ -1,6 +1,7 @@
 //! A phrase file before it is written; every field, counts and lengths too, may be wrong. Also a playing's bytes.
 
 use crate::dispatch::Scenario;
+use crate::layout::Layout;
 use crate::writing::{EditedBell, EditedNote, EditedPhrase};
 
 #[derive(Clone, Debug, PartialEq, Eq)]
@@ -42,6 +43,8 @@ pub struct Draft {
     /// Added to the right count of bytes, wrapping.
     pub count_error: u32,
     pub drivers: u8,
+    /// A byte after the driver count, as files of version 2 have it.
+    pub shift: Option<i8>,
     pub bell_count: u8,
     pub bells: Vec<DraftBell>,
     pub stroke_count: u8,
@@ -51,12 +54,13 @@ pub struct Draft {
 }
 
 impl Draft {
-    /// A draft whose counts are right.
+    /// A draft of version 1 whose counts are right.
     pub fn new(drivers: u8, bells: Vec<DraftBell>, notes: Vec<DraftNote>) -> Draft {
         Draft {
             version: 1,
             count_error: 0,
             drivers,
+            shift: None,
             bell_count: bells.len() as u8,
             bells,
             stroke_count: notes.len() as u8,
@@ -65,8 +69,22 @@ impl Draft {
         }
     }
 
+    /// A draft of version 1 made one of version 2: its keys are written so that with this shift they find the bells that they
+    /// found; none if one of them would be no byte.
+    pub fn shifted(mut self, shift: i8) -> Option<Draft> {
+        self.version = 2;
+        self.shift = Some(shift);
+        for note in &mut self.notes {
+            let written = i16::from(note.key) - i16::from(shift);
+            note.key = u8::try_from(written).ok()?;
+        }
+        Some(self)
+    }
+
     pub fn bytes(&self) -> Vec<u8> {
-        let mut file = vec![self.version, 0, 0, 0, 0, self.drivers, self.bell_count];
+        let mut file = vec![self.version, 0, 0, 0, 0, self.drivers];
+        file.extend(self.shift.map(|shift| shift as u8));
+        file.push(self.bell_count);
         for bell in &self.bells {
             file.push(bell.written);
             file.extend(bell.transposition.to_be_bytes());
@@ -110,7 +128,7 @@ pub fn correct_count(file: &mut [u8], error: u32) {
 
 impl Draft {
     /// The draft of the file that a phrase would be written as, whatever rules it breaks; none if a field is too wide for
-    /// its bytes.
+    /// its bytes, or a shift other than 0 has none.
     pub fn of(phrase: &EditedPhrase) -> Option<Draft> {
         let bell_fits = |bell: &EditedBell| {
             let bytes = [bell.written, bell.transposition, bell.rank];
@@ -121,23 +139,34 @@ impl Draft {
             let longest = 255 - 13;
             note.wait_count <= longest && fit_a_byte(&[note.key]) && fit_a_byte(note.waits())
         };
+        let shift_fits = match Layout::of(phrase.version.into()) {
+            Some(Layout { has_shift: false }) => phrase.shift == 0,
+            Some(Layout { has_shift: true }) => fit_a_byte(&[phrase.shift]),
+            // No file of this version is read that far.
+            None => true,
+        };
         let head = [phrase.version, phrase.drivers, phrase.bell_count];
         let fits = fit_a_byte(&head)
+            && shift_fits
             && phrase.bells().iter().all(bell_fits)
             && fit_a_byte(&[phrase.note_count])
             && phrase.notes().iter().all(note_fits);
         fits.then(|| Draft::cut(phrase))
     }
 
-    /// The same with every field cut to its bytes, counts too: what a careless writer would make of the phrase.
+    /// The same with every field cut to its bytes, counts too, or left out if it has none: what a careless writer would make
+    /// of the phrase.
     pub fn cut(phrase: &EditedPhrase) -> Draft {
         let bells = phrase.bells.iter().map(cut_bell);
         let notes = phrase.notes.iter().map(cut_note);
         let (bell_count, stroke_count) = (phrase.bell_count as u8, phrase.note_count as u8);
+        let version = phrase.version as u8;
+        let has_shift = Layout::of(version.into()).is_some_and(|layout| layout.has_shift);
         Draft {
-            version: phrase.version as u8,
+            version,
             count_error: 0,
             drivers: phrase.drivers as u8,
+            shift: has_shift.then_some(phrase.shift as i8),
             bell_count,
             bells: bells.take(bell_count.into()).collect(),
             stroke_count,
@@ -182,6 +211,7 @@ impl From<&Draft> for EditedPhrase {
         let mut phrase = EditedPhrase::zero();
         phrase.version = draft.version.into();
         phrase.drivers = draft.drivers.into();
+        phrase.shift = draft.shift.map_or(0, |shift| u32::from(shift as u8));
         phrase.bell_count = draft.bell_count.into();
         phrase.note_count = draft.stroke_count.into();
         for (row, bell) in phrase.bells.iter_mut().zip(&draft.bells) {

@@ -41,7 +41,7 @@ pub struct HostPhrase {
     pub drivers: u32,
     pub bell_count: u32,
     pub note_count: u32,
-    pub spare: u32,
+    pub shift: u32,
     pub bells: [HostBell; MOST_BELLS as usize],
     pub notes: [HostNote; MOST_STROKES],
 }
@@ -58,7 +58,7 @@ impl HostPhrase {
             drivers: content(),
             bell_count: content(),
             note_count: content(),
-            spare: content(),
+            shift: content(),
             bells: array::from_fn(|_| HostBell::filled(content)),
             notes: array::from_fn(|_| HostNote::filled(content)),
         }
@@ -75,6 +75,7 @@ impl HostPhrase {
         host.drivers = phrase.drivers;
         host.bell_count = phrase.bell_count;
         host.note_count = phrase.note_count;
+        host.shift = phrase.shift;
         for (row, bell) in host.bells.iter_mut().zip(&phrase.bells) {
             row.set(bell);
         }
@@ -89,6 +90,7 @@ impl HostPhrase {
         EditedPhrase {
             version: self.version,
             drivers: self.drivers,
+            shift: self.shift,
             bell_count: self.bell_count,
             note_count: self.note_count,
             bells: array::from_fn(|number| self.bells[number].edited()),

@@ -1,7 +1,8 @@
 //! Reads a playing, a call moment and a hold for each stroke of a phrase, and works it out by the dispatch rule.
 
 use crate::dispatch::{Run, Scenario, Status};
-use crate::reading::{HEAD, MOST_STROKES, Phrase, Refusal, big_endian, read, refusal, require};
+use crate::layout::HEAD;
+use crate::reading::{MOST_STROKES, Phrase, Refusal, big_endian, read, refusal, require};
 
 /// A call moment of four bytes and a hold of two.
 const STROKE_BYTES: usize = 6;

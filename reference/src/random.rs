@@ -1,23 +1,26 @@
 //! Random phrase files from a seed: valid ones of many shapes, ones with calls at 0, damaged ones, and large ones; random
-//! phrases to write; and random playings.
+//! phrases to write; and random playings. All of them but those with calls at 0 are there of version 1 and of version 2.
 
 mod damaged;
 mod edited;
 mod generator;
 mod large;
 mod played;
+mod shifted;
 mod valid;
 
-pub use damaged::damaged;
-pub use edited::{EditedCase, edited, longest};
+pub use edited::{EditedCase, longest};
 pub use generator::Generator;
-pub use played::{PlayedCase, played};
-pub use valid::{Shape, TINY, accepted_words, at_zero, draft, tuned, valid};
+pub use played::PlayedCase;
+pub use valid::{Shape, TINY, accepted_words, at_zero, draft, tuned};
 
 use crate::check::HOST_WORDS;
 use crate::dispatch::Scenario;
+use crate::draft::Draft;
 use crate::reading::{self, Phrase};
 use crate::walk;
+use edited::edited;
+use played::played;
 
 /// What `tests/compare.rs` takes unless told otherwise, and `tests/stream.rs` holds to what it has to
 /// cover: so many cases of this seed, and one of the widest for every two thousand of them. Also what
@@ -27,6 +30,8 @@ pub const CASES: u64 = 20_000;
 pub const CASES_PER_WIDEST: u64 = 2_000;
 /// `tests/compare.rs` takes one case with calls at 0 for every four, and itself sees to what these cover.
 pub const CASES_PER_AT_ZERO: u64 = 4;
+/// For every so many cases of version 1, all of them take one of version 2.
+pub const CASES_PER_SHIFTED: u64 = 4;
 
 /// A phrase file and the length of a table to lend for it.
 #[derive(Clone, Debug)]
@@ -35,26 +40,60 @@ pub struct Case {
     pub table_words: usize,
 }
 
+/// Makes a draft of version 1 one of the version wanted.
+type Versioned = fn(&mut Generator, Draft) -> Draft;
+
+const VERSION_1: Versioned = |_, draft| draft;
+const VERSION_2: Versioned = shifted::shifted;
+
+/// With the same seed and number, a phrase of version 2 is not the one of version 1 once more.
+fn of_shifted_case(seed: u64, number: u64) -> Generator {
+    Generator::of_case(seed ^ (1 << 32), number)
+}
+
 /// The case of this number in the stream of this seed; no other case is needed to make it.
 pub fn case(seed: u64, number: u64) -> Case {
-    let mut random = Generator::of_case(seed, number);
+    any(&mut Generator::of_case(seed, number), VERSION_1)
+}
+
+/// A case of version 2, by number like the others.
+pub fn shifted_case(seed: u64, number: u64) -> Case {
+    any(&mut of_shifted_case(seed, number), VERSION_2)
+}
+
+fn any(random: &mut Generator, versioned: Versioned) -> Case {
     let file = match random.below(16) {
-        0 => return large::large(&mut random),
-        1..=9 => valid(&mut random),
-        _ => damaged(&mut random),
+        0 => return large::large(random, versioned),
+        1..=9 => valid::valid(random, versioned),
+        _ => damaged::damaged(random, versioned),
     };
-    let table_words = table_words(&mut random, &file);
+    let table_words = table_words(random, &file);
     Case { file, table_words }
+}
+
+/// A damaged file by itself.
+pub fn damaged(random: &mut Generator) -> Vec<u8> {
+    damaged::damaged(random, VERSION_1)
 }
 
 /// A phrase to write, by number like the others.
 pub fn edited_case(seed: u64, number: u64) -> EditedCase {
-    edited(&mut Generator::of_case(seed, number))
+    edited(&mut Generator::of_case(seed, number), VERSION_1)
+}
+
+/// A phrase of version 2 to write, by number like the others.
+pub fn shifted_edited_case(seed: u64, number: u64) -> EditedCase {
+    edited(&mut of_shifted_case(seed, number), VERSION_2)
 }
 
 /// A phrase file and a playing, by number like the others.
 pub fn played_case(seed: u64, number: u64) -> PlayedCase {
-    played(&mut Generator::of_case(seed, number))
+    played(&mut Generator::of_case(seed, number), VERSION_1)
+}
+
+/// A phrase file of version 2 and a playing, by number like the others.
+pub fn shifted_played_case(seed: u64, number: u64) -> PlayedCase {
+    played(&mut of_shifted_case(seed, number), VERSION_2)
 }
 
 /// A case with levels of thousands of states, by number like the others.

@@ -1,5 +1,6 @@
-//! Reads a phrase file: its bytes give a phrase or the first refusal, 1 to 12, with its place.
+//! Reads a phrase file: its bytes give a phrase or the first refusal, 1 to 12 or 19, with its place.
 
+use crate::layout::{HEAD, Layout};
 use crate::range::Range;
 
 pub const MOST_DRIVERS: u64 = 8;
@@ -11,9 +12,8 @@ pub const LONGEST_HOLD: u64 = 5_000;
 pub const LOWEST_KEY: i64 = 12;
 pub const HIGHEST_KEY: i64 = 119;
 pub const WIDEST_TRANSPOSITION: i64 = 24;
+pub const WIDEST_SHIFT: i64 = 24;
 
-/// Version and count; what the count counts begins here.
-pub(crate) const HEAD: usize = 5;
 pub(crate) const BELL_BYTES: usize = 7;
 /// Key, ra, rb and d; the waited-for numbers follow.
 pub(crate) const NOTE_FIELDS: usize = 13;
@@ -47,6 +47,9 @@ pub struct Bell {
 
 #[derive(Clone, Debug, PartialEq, Eq)]
 pub struct Stroke {
+    /// The key as the note has it.
+    pub written: u8,
+    /// The key that sounds: written key plus shift.
     pub key: i64,
     pub bell: usize,
     /// ra..rb
@@ -68,6 +71,8 @@ pub struct Phrase {
     pub version: u64,
     /// m
     pub drivers: usize,
+    /// What is added to the key of every note.
+    pub shift: i64,
     pub bells: Vec<Bell>,
     /// K of them, in file order.
     pub strokes: Vec<Stroke>,
@@ -107,7 +112,8 @@ fn bytes_at(file: &[u8], first: usize, length: usize) -> Result<&[u8], Refusal> 
 }
 
 pub fn read(file: &[u8]) -> Result<Phrase, Refusal> {
-    require(file.is_empty() || file[0] == 1, 1, 0)?;
+    let version = u64::from(*file.first().ok_or(refusal(2, 0))?);
+    let layout = Layout::of(version).ok_or(refusal(1, 0))?;
     require(file.len() >= HEAD, 2, 0)?;
     require(
         big_endian(&file[1..HEAD]) == (file.len() - HEAD) as u64,
@@ -119,6 +125,12 @@ pub fn read(file: &[u8]) -> Result<Phrase, Refusal> {
     let drivers = big_endian(bytes_at(file, at, 1)?);
     require((1..=MOST_DRIVERS).contains(&drivers), 4, at)?;
     at += 1;
+
+    let mut shift = 0;
+    if layout.has_shift {
+        shift = read_shift(file, at)?;
+        at += 1;
+    }
 
     let bell_count = big_endian(bytes_at(file, at, 1)?);
     require((1..=MOST_BELLS).contains(&bell_count), 5, at)?;
@@ -138,18 +150,25 @@ pub fn read(file: &[u8]) -> Result<Phrase, Refusal> {
 
     let mut strokes = Vec::new();
     for _ in 0..stroke_count {
-        let (stroke, length) = read_note(file, at, &bells, &strokes)?;
+        let (stroke, length) = read_note(file, at, shift, &bells, &strokes)?;
         strokes.push(stroke);
         at += length;
     }
     require(at == file.len(), 3, at)?;
 
     Ok(Phrase {
-        version: u64::from(file[0]),
+        version,
         drivers: drivers as usize,
+        shift,
         bells,
         strokes,
     })
+}
+
+fn read_shift(file: &[u8], at: usize) -> Result<i64, Refusal> {
+    let shift = i64::from(bytes_at(file, at, 1)?[0] as i8);
+    require((-WIDEST_SHIFT..=WIDEST_SHIFT).contains(&shift), 19, at)?;
+    Ok(shift)
 }
 
 fn read_bell(file: &[u8], first: usize) -> Result<Bell, Refusal> {
@@ -179,6 +198,7 @@ fn read_bell(file: &[u8], first: usize) -> Result<Bell, Refusal> {
 fn read_note(
     file: &[u8],
     first: usize,
+    shift: i64,
     bells: &[Bell],
     earlier: &[Stroke],
 ) -> Result<(Stroke, usize), Refusal> {
@@ -190,7 +210,8 @@ fn read_note(
     )?;
     let record = &bytes_at(file, first, 1 + length)?[1..];
 
-    let key = i64::from(record[0]);
+    // Bells sound for 12 to 119 only, so a sum below or above finds none.
+    let key = i64::from(record[0]) + shift;
     let Some(bell) = bells.iter().position(|b| b.key == key) else {
         return Err(refusal(10, first));
     };
@@ -215,6 +236,7 @@ fn read_note(
     waits.sort_unstable();
 
     let stroke = Stroke {
+        written: record[0],
         key,
         bell,
         call,

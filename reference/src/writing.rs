@@ -1,15 +1,12 @@
 //! Writes a phrase as a file, or refuses it as the reader would refuse the file so written.
 
+use crate::layout::{DRIVERS_AT, HEAD, Layout, SHIFT_AT};
 use crate::reading::{
-    BELL_BYTES, Bell, HEAD, HIGHEST_KEY, LATEST_TIME, LONGEST_HOLD, LOWEST_KEY, MOST_BELLS,
-    MOST_DRIVERS, MOST_STROKES, MOST_WAITS, NOTE_FIELDS, Phrase, Refusal, Stroke,
+    BELL_BYTES, Bell, HIGHEST_KEY, LATEST_TIME, LONGEST_HOLD, LOWEST_KEY, MOST_BELLS, MOST_DRIVERS,
+    MOST_STROKES, MOST_WAITS, NOTE_FIELDS, Phrase, Refusal, Stroke, WIDEST_SHIFT,
     WIDEST_TRANSPOSITION, refusal, require,
 };
 
-/// Where the driver count, the bell count and the first bell stand.
-const DRIVERS_AT: usize = HEAD;
-const BELL_COUNT_AT: usize = 6;
-const BELLS_AT: usize = 7;
 /// A note that lists nothing, its length byte included.
 const NOTE_BYTES: usize = 1 + NOTE_FIELDS;
 
@@ -29,7 +26,7 @@ pub struct EditedBell {
 /// A note as an editor holds it.
 #[derive(Clone, Copy, Debug, Default)]
 pub struct EditedNote {
-    /// As written: the key that a bell has to sound for.
+    /// As written: with the shift, the key that a bell has to sound for.
     pub key: u32,
     pub ra: u32,
     pub rb: u32,
@@ -46,6 +43,8 @@ pub struct EditedPhrase {
     pub version: u32,
     /// m
     pub drivers: u32,
+    /// As the file's byte: 253 is -3. 0 in a phrase of version 1, whose file has no such byte.
+    pub shift: u32,
     pub bell_count: u32,
     /// K
     pub note_count: u32,
@@ -59,6 +58,7 @@ impl EditedPhrase {
         EditedPhrase {
             version: 0,
             drivers: 0,
+            shift: 0,
             bell_count: 0,
             note_count: 0,
             bells: [EditedBell::default(); MOST_BELLS as usize],
@@ -91,10 +91,8 @@ fn up_to<T>(rows: &[T], count: u32) -> &[T] {
 /// Up to the counts.
 impl PartialEq for EditedPhrase {
     fn eq(&self, other: &EditedPhrase) -> bool {
-        let counts = |p: &EditedPhrase| (p.version, p.drivers, p.bell_count, p.note_count);
-        counts(self) == counts(other)
-            && self.bells() == other.bells()
-            && self.notes() == other.notes()
+        let head = |p: &EditedPhrase| [p.version, p.drivers, p.shift, p.bell_count, p.note_count];
+        head(self) == head(other) && self.bells() == other.bells() && self.notes() == other.notes()
     }
 }
 
@@ -112,6 +110,7 @@ impl From<&Phrase> for EditedPhrase {
         let mut edited = EditedPhrase::zero();
         edited.version = phrase.version as u32;
         edited.drivers = phrase.drivers as u32;
+        edited.shift = u32::from(phrase.shift as u8);
         edited.bell_count = phrase.bells.len() as u32;
         edited.note_count = phrase.strokes.len() as u32;
         for (row, bell) in edited.bells.iter_mut().zip(&phrase.bells) {
@@ -139,7 +138,7 @@ impl From<&Bell> for EditedBell {
 impl From<&Stroke> for EditedNote {
     fn from(stroke: &Stroke) -> EditedNote {
         let mut note = EditedNote {
-            key: stroke.key as u32,
+            key: stroke.written.into(),
             ra: stroke.call.low as u32,
             rb: stroke.call.high as u32,
             due: stroke.due as u32,
@@ -176,13 +175,18 @@ type Sounding = [bool; HIGHEST_KEY as usize + 1];
 
 /// The length of the phrase's file, or the refusal of the first field that breaks the file rules.
 pub fn file_length(phrase: &EditedPhrase) -> Result<usize, Refusal> {
-    require(phrase.version == 1, 1, 0)?;
+    let layout = layout(phrase).ok_or(refusal(1, 0))?;
     let drivers = u64::from(phrase.drivers);
     require((1..=MOST_DRIVERS).contains(&drivers), 4, DRIVERS_AT)?;
+    let shift = semitones(phrase.shift, layout).ok_or(refusal(19, SHIFT_AT))?;
     let bell_count = u64::from(phrase.bell_count);
-    require((1..=MOST_BELLS).contains(&bell_count), 5, BELL_COUNT_AT)?;
+    require(
+        (1..=MOST_BELLS).contains(&bell_count),
+        5,
+        layout.bell_count_at(),
+    )?;
 
-    let mut at = BELLS_AT;
+    let mut at = layout.bells_at();
     let mut sounding: Sounding = [false; HIGHEST_KEY as usize + 1];
     for bell in phrase.bells() {
         let key = sounding_key(bell).ok_or(refusal(6, at))?;
@@ -194,10 +198,22 @@ pub fn file_length(phrase: &EditedPhrase) -> Result<usize, Refusal> {
     require(phrase.note_count as usize <= MOST_STROKES, 8, at)?;
     at += 1;
     for (number, note) in (0..).zip(phrase.notes()) {
-        check_note(note, number, &sounding).map_err(|broken| refusal(broken, at))?;
+        check_note(note, number, shift, &sounding).map_err(|broken| refusal(broken, at))?;
         at += NOTE_BYTES + note.waits().len();
     }
     Ok(at)
+}
+
+/// The layout of the file that the phrase asks for.
+fn layout(phrase: &EditedPhrase) -> Option<Layout> {
+    Layout::of(phrase.version.into())
+}
+
+/// The shift in semitones; none if it is out of range, or not 0 where the file has no byte for it.
+fn semitones(shift: u32, layout: Layout) -> Option<i64> {
+    let shift = i64::from(u8::try_from(shift).ok()? as i8);
+    let widest = if layout.has_shift { WIDEST_SHIFT } else { 0 };
+    (-widest..=widest).contains(&shift).then_some(shift)
 }
 
 /// The key that a bell sounds for; none if a field, or this key, is out of range.
@@ -217,11 +233,13 @@ fn sounding_key(bell: &EditedBell) -> Option<usize> {
 }
 
 /// The number of the first rule that the note with this number breaks, as an error.
-fn check_note(note: &EditedNote, number: u32, sounding: &Sounding) -> Result<(), u64> {
+fn check_note(note: &EditedNote, number: u32, shift: i64, sounding: &Sounding) -> Result<(), u64> {
     if note.wait_count as usize > MOST_WAITS {
         return Err(9);
     }
-    if sounding.get(note.key as usize) != Some(&true) {
+    // A key too wide for a byte is beyond all bells, whatever the shift; the sum does not wrap.
+    let key = usize::try_from(i64::from(note.key) + shift).ok();
+    if key.and_then(|key| sounding.get(key)) != Some(&true) {
         return Err(10);
     }
     let latest = note.rb.max(note.due);
@@ -239,14 +257,18 @@ fn check_note(note: &EditedNote, number: u32, sounding: &Sounding) -> Result<(),
 
 /// Writes every byte of the file of a phrase that breaks no rule, so that each field fits its bytes.
 fn put_phrase(phrase: &EditedPhrase, file: &mut [u8]) {
+    let layout = layout(phrase).expect("another version would break a rule");
     let count = (file.len() - HEAD) as u32;
     file[0] = phrase.version as u8;
     file[1..HEAD].copy_from_slice(&count.to_be_bytes());
     file[DRIVERS_AT] = phrase.drivers as u8;
-    file[BELL_COUNT_AT] = phrase.bell_count as u8;
+    if layout.has_shift {
+        file[SHIFT_AT] = phrase.shift as u8;
+    }
+    file[layout.bell_count_at()] = phrase.bell_count as u8;
 
     let bell_bytes = BELL_BYTES * phrase.bells().len();
-    let (bells, rest) = file[BELLS_AT..].split_at_mut(bell_bytes);
+    let (bells, rest) = file[layout.bells_at()..].split_at_mut(bell_bytes);
     for (record, bell) in bells.chunks_exact_mut(BELL_BYTES).zip(phrase.bells()) {
         put_bell(bell, record);
     }

@@ -1,12 +1,16 @@
 //! The product's library against this checker: numbers, places, texts and all that stays untouched.
 //!
 //! COMPARE_COUNT phrases (20,000) of COMPARE_SEED (1), from number COMPARE_FIRST (0) on, for every two
-//! thousand one of the widest, and for every four one with calls at 0.
+//! thousand one of the widest, for every four one with calls at 0, and for every four one of version 2.
 
+#[path = "common/counts.rs"]
+mod counts;
 #[path = "common/lent.rs"]
 mod lent;
 #[path = "common/settings.rs"]
 mod settings;
+#[path = "common/shifted_kinds.rs"]
+mod shifted_kinds;
 #[path = "common/tally.rs"]
 mod tally;
 
@@ -18,14 +22,16 @@ use reference::draft::{Draft, DraftBell, DraftNote};
 use reference::examples::*;
 use reference::foreign;
 use reference::paper::steps;
-use reference::random::{self, Generator, at_zero_case, case, widest_case};
+use reference::random::{self, Case, Generator, at_zero_case, case, shifted_case, widest_case};
 use reference::reading::read;
 use reference::report::check_and_text;
 use reference::walk::{capacity, walk_observed, words_per_state};
-use settings::{in_hexadecimal, named, setting};
+use settings::{Wanted, in_hexadecimal, named};
+use shifted_kinds::ShiftedKinds;
 use tally::Tally;
 
-/// So many cases have to meet latest starts below zero often; fewer are for a look at one difference.
+/// So many cases have to meet latest starts below zero and all kinds of version 2 often; fewer are for a look at one
+/// difference.
 const ENOUGH: u64 = 5_000;
 
 /// What was compared, by the answers in lent tables.
@@ -34,8 +40,22 @@ struct Kinds {
     answers: Tally,
     /// Of phrases with a candidate whose latest start is below zero.
     below_zero: Tally,
-    reports_written: u64,
-    reports_refused: u64,
+    reports: Reports,
+}
+
+#[derive(Default)]
+struct Reports {
+    written: u64,
+    refused: u64,
+}
+
+impl Reports {
+    fn print(&self) {
+        println!(
+            "reports written {}, refused with 15 {}",
+            self.written, self.refused
+        );
+    }
 }
 
 impl Kinds {
@@ -43,10 +63,7 @@ impl Kinds {
         (self.answers)
             .print("random phrases that agree, by their answer in tables of many lengths");
         (self.below_zero).print("those of them in which a latest start is below zero");
-        println!(
-            "reports written {}, refused with 15 {}",
-            self.reports_written, self.reports_refused
-        );
+        self.reports.print();
     }
 
     /// Names an answer that phrases with a latest start below zero too rarely had in so many cases.
@@ -66,8 +83,8 @@ struct Trial<'a> {
 }
 
 impl Trial<'_> {
-    /// Makes all four calls; says which one differs, and how.
-    fn run(&mut self, kinds: &mut Kinds) -> Result<(), String> {
+    /// Makes all four calls; says which one differs, and how. Gives the answer in the lent table.
+    fn run(&mut self, reports: &mut Reports) -> Result<u64, String> {
         let (check, text) = check_and_text(self.file, HOST_WORDS);
         named("phrase_check", || {
             compare_number(&check, foreign::phrase_check(self.file))
@@ -79,10 +96,6 @@ impl Trial<'_> {
         })?;
 
         let (check, text) = check_and_text(self.file, self.table_words);
-        kinds.answers.add(check.host_number());
-        if has_latest_start_below_zero(self.file, self.table_words) {
-            kinds.below_zero.add(check.host_number());
-        }
         named("phrase_check_with", || {
             let mut table = self.lend_table();
             let number = foreign::phrase_check_with(self.file, table.slice());
@@ -93,11 +106,12 @@ impl Trial<'_> {
             let mut table = self.lend_table();
             let mut lent = self.lend_text(&text);
             let length = foreign::phrase_report_with(self.file, table.slice(), lent.slice());
-            kinds.reports_written += u64::from(length != 0);
-            kinds.reports_refused += u64::from(length == 0);
+            reports.written += u64::from(length != 0);
+            reports.refused += u64::from(length == 0);
             compare_text(&text, &lent, length)?;
             self.compare_table(&table)
-        })
+        })?;
+        Ok(check.host_number())
     }
 
     fn lend_table(&mut self) -> Lent<u32> {
@@ -181,37 +195,69 @@ fn compare_text(text: &str, lent: &Lent<u8>, length: usize) -> Result<(), String
 }
 
 fn compare_random_phrases() -> Result<(), String> {
-    let count = setting("COMPARE_COUNT", random::CASES)?;
-    let seed = setting("COMPARE_SEED", random::SEED)?;
-    let first = setting("COMPARE_FIRST", 0)?;
-    if count == 0 {
-        return Err("COMPARE_COUNT is 0: nothing to compare".to_string());
-    }
+    let wanted = Wanted::new()?;
     let mut kinds = Kinds::default();
-    let widest = count.div_ceil(random::CASES_PER_WIDEST);
-    let at_zero = count.div_ceil(random::CASES_PER_AT_ZERO);
-    let cases = (first..first + count).map(|number| (number, case(seed, number)));
-    let widest = (first..first + widest).map(|number| (number, widest_case(seed, number)));
-    let at_zero = (first..first + at_zero).map(|number| (number, at_zero_case(seed, number)));
+    let drawn = |case: fn(u64, u64) -> Case, cases_per| {
+        let numbers = wanted.numbers(cases_per);
+        numbers.map(move |number| (number, case(wanted.seed, number)))
+    };
+    let cases = drawn(case, 1);
+    let widest = drawn(widest_case, random::CASES_PER_WIDEST);
+    let at_zero = drawn(at_zero_case, random::CASES_PER_AT_ZERO);
     for (number, case) in cases.chain(widest).chain(at_zero) {
-        let mut trial = Trial {
-            file: &case.file,
-            table_words: case.table_words,
-            random: Generator::of_case(!seed, number),
-        };
-        trial.run(&mut kinds).map_err(|difference| {
-            format!(
-                "COMPARE_SEED={seed} COMPARE_FIRST={number}: {difference}\ntable {} words, file {}",
-                case.table_words,
-                in_hexadecimal(&case.file)
-            )
-        })?;
+        let answer = compare_drawn(&wanted, number, &case, &mut kinds.reports)?;
+        kinds.answers.add(answer);
+        if has_latest_start_below_zero(&case.file, case.table_words) {
+            kinds.below_zero.add(answer);
+        }
     }
     kinds.print();
-    if count < ENOUGH {
+    if wanted.count < ENOUGH {
         return Ok(());
     }
-    kinds.demand_below_zero(count)
+    kinds.demand_below_zero(wanted.count)
+}
+
+fn compare_random_phrases_of_version_2() -> Result<(), String> {
+    let wanted = Wanted::new()?;
+    let numbers = wanted.numbers(random::CASES_PER_SHIFTED);
+    let (mut kinds, mut reports) = (ShiftedKinds::new(), Reports::default());
+    for number in numbers.clone() {
+        let case = shifted_case(wanted.seed, number);
+        let answer = compare_drawn(&wanted, number, &case, &mut reports)
+            .map_err(|difference| format!("version 2, {difference}"))?;
+        kinds.add(&case.file, answer);
+    }
+    (kinds.answers).print("random phrases of version 2 that agree, by their answer in such tables");
+    kinds.print();
+    reports.print();
+    let cases = numbers.end - numbers.start;
+    if cases < ENOUGH {
+        return Ok(());
+    }
+    kinds.demand_all(cases)
+}
+
+/// Gives the answer in the lent table.
+fn compare_drawn(
+    wanted: &Wanted,
+    number: u64,
+    case: &Case,
+    reports: &mut Reports,
+) -> Result<u64, String> {
+    let mut trial = Trial {
+        file: &case.file,
+        table_words: case.table_words,
+        random: Generator::of_case(!wanted.seed, number),
+    };
+    trial.run(reports).map_err(|difference| {
+        format!(
+            "{}: {difference}\ntable {} words, file {}",
+            wanted.name(number),
+            case.table_words,
+            in_hexadecimal(&case.file)
+        )
+    })
 }
 
 fn compare_examples() -> Result<(), String> {
@@ -227,17 +273,54 @@ fn compare_examples() -> Result<(), String> {
         m7(),
         m8(),
     ];
-    for file in &files {
-        for table_words in [0, 7, 8, 31, 32, HOST_WORDS] {
-            for seed in 0..20 {
-                compare_once(file, table_words, seed)?;
-            }
-        }
-    }
+    compare_files(&files)?;
     println!("examples that agree: {}", files.len());
     for (counts, words) in NEAR_HOST_WORDS {
         for table_words in [words - 1, words] {
             compare_once(&in_any_order(&counts), table_words, 0)?;
+        }
+    }
+    Ok(())
+}
+
+fn compare_examples_of_version_2() -> Result<(), String> {
+    let mut files = vec![
+        P_SHIFTED.to_vec(),
+        p_lower(),
+        p_shifted_with(36, 6),
+        outermost_bells(143, -24),
+        outermost_bells(0, 12),
+    ];
+    files.extend(refused_of_version_2().into_iter().map(|(file, ..)| file));
+    compare_files(&files)?;
+    println!("examples of version 2 that agree: {}", files.len());
+    Ok(())
+}
+
+/// Every key of a note with every shift up to those just out of range, on bells that sound for the lowest and the highest key.
+fn compare_keys_and_shifts() -> Result<(), String> {
+    let mut accepted = 0;
+    for shift in -25..=25 {
+        for key in 0..=255 {
+            let file = outermost_bells(key, shift);
+            compare_once(&file, 12, key.into())?;
+            accepted += u64::from(read(&file).is_ok());
+        }
+    }
+    println!("all keys with all shifts agree, {accepted} of them with a bell");
+    // The upper bell with each of 49 shifts, the lower one with none above 12.
+    if accepted != 49 + 37 {
+        return Err("other keys than there should be find a bell".to_string());
+    }
+    Ok(())
+}
+
+fn compare_files(files: &[Vec<u8>]) -> Result<(), String> {
+    for file in files {
+        for table_words in [0, 7, 8, 31, 32, HOST_WORDS] {
+            for seed in 0..20 {
+                compare_once(file, table_words, seed)?;
+            }
         }
     }
     Ok(())
@@ -249,10 +332,11 @@ fn compare_once(file: &[u8], table_words: usize, seed: u64) -> Result<(), String
         table_words,
         random: Generator::new(seed),
     };
-    trial.run(&mut Kinds::default()).map_err(|difference| {
+    trial.run(&mut Reports::default()).map_err(|difference| {
         let file = in_hexadecimal(file);
         format!("{difference}\ntable {table_words} words, file {file}")
-    })
+    })?;
+    Ok(())
 }
 
 /// Levels of thousands of states: strokes that may go in any order, so that every set of them is one.
@@ -287,6 +371,9 @@ fn main() -> ExitCode {
     match compare_examples()
         .and_then(|()| compare_large_levels())
         .and_then(|()| compare_random_phrases())
+        .and_then(|()| compare_examples_of_version_2())
+        .and_then(|()| compare_keys_and_shifts())
+        .and_then(|()| compare_random_phrases_of_version_2())
     {
         Ok(()) => ExitCode::SUCCESS,
         Err(difference) => {

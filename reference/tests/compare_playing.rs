@@ -1,7 +1,7 @@
 //! The library's runs of playings against this checker's: answers, every word of starts and ends, and the words beyond.
 //!
-//! COMPARE_COUNT phrases with a playing (20,000) of COMPARE_SEED (1), from number COMPARE_FIRST (0) on; and every playing
-//! of the marked phrases and of PLAYED_PHRASES small ones (600) that are accepted.
+//! COMPARE_COUNT phrases with a playing (20,000) of COMPARE_SEED (1), from number COMPARE_FIRST (0) on, and for every four one
+//! of version 2; and every playing of the marked phrases and of PLAYED_PHRASES small ones (600) that are accepted.
 
 #[path = "common/counts.rs"]
 mod counts;
@@ -13,6 +13,8 @@ mod lent;
 mod played_kinds;
 #[path = "common/settings.rs"]
 mod settings;
+#[path = "common/shifted_kinds.rs"]
+mod shifted_kinds;
 #[path = "common/tally.rs"]
 mod tally;
 
@@ -28,14 +30,15 @@ use reference::events::by_events;
 use reference::examples::*;
 use reference::foreign;
 use reference::playing::{Played, literally, play_by, read_playing};
-use reference::random::{self, Generator, PlayedCase, TINY, played_case};
+use reference::random::{self, Generator, PlayedCase, TINY, played_case, shifted_played_case};
 use reference::reading::{MOST_STROKES, Phrase, Refusal, read};
-use settings::{in_hexadecimal, named, setting};
+use settings::{Wanted, in_hexadecimal, named, setting};
+use shifted_kinds::ShiftedKinds;
 
 /// So many cases have to meet every kind often; fewer are for a look at one difference.
 const ENOUGH: u64 = 5_000;
-/// Long runs that are run literally too.
-const LONG_AND_LITERAL: u64 = 12;
+/// Long runs that are run literally too, in version 1 and in version 2.
+const LONG_AND_LITERAL: [u64; 2] = [12, 3];
 /// Small phrases with more playings than this take too long.
 const MOST_PLAYINGS: u64 = 3_000;
 
@@ -115,16 +118,18 @@ fn keeps_promises(phrase: &Phrase, check: &Check, found: &Played) -> Result<(), 
     Ok(())
 }
 
+/// Gives the answer that the library has to have.
 fn compare_case(
     case: &PlayedCase,
     random: &mut Generator,
     kinds: &mut Kinds,
-) -> Result<(), String> {
+) -> Result<u64, String> {
     let expected = play_by(&case.file, &case.playing, run);
     let found = named("phrase_play", || compare_play(case, &expected, random))?;
-    kinds.answers.add(host_number(&expected));
+    let answer = host_number(&expected);
+    kinds.answers.add(answer);
     let Ok(phrase) = read(&case.file) else {
-        return Ok(());
+        return Ok(answer);
     };
     match &expected {
         Err(Refusal { number: 17, .. }) => kinds.add_malformed(&phrase, &case.playing),
@@ -136,39 +141,63 @@ fn compare_case(
                 keeps_promises(&phrase, &check, &found)?;
             }
             kinds.add_run(&phrase, &scenario, played, check.is_accepted());
-            if is_long(&scenario) && kinds.literal_too < LONG_AND_LITERAL {
+            let most_literal = LONG_AND_LITERAL[usize::from(phrase.version == 2)];
+            if is_long(&scenario) && kinds.literal_too < most_literal {
                 kinds.literal_too += 1;
                 let literal = literally(&phrase, &scenario);
                 same(found == literal, "not the literal run")?;
             }
         }
     }
-    Ok(())
+    Ok(answer)
 }
 
 fn compare_random() -> Result<(), String> {
-    let count = setting("COMPARE_COUNT", random::CASES)?;
-    let seed = setting("COMPARE_SEED", random::SEED)?;
-    let first = setting("COMPARE_FIRST", 0)?;
-    if count == 0 {
-        return Err("COMPARE_COUNT is 0: nothing to compare".to_string());
-    }
+    let wanted = Wanted::new()?;
     let mut kinds = Kinds::new();
-    for number in first..first + count {
-        let mut random = Generator::of_case(!seed, number);
-        let case = played_case(seed, number);
+    for number in wanted.numbers(1) {
+        let mut random = Generator::of_case(!wanted.seed, number);
+        let case = played_case(wanted.seed, number);
         compare_case(&case, &mut random, &mut kinds).map_err(|difference| {
             format!(
-                "COMPARE_SEED={seed} COMPARE_FIRST={number}: {difference}\n{}",
+                "{}: {difference}\n{}",
+                wanted.name(number),
                 described(&case)
             )
         })?;
     }
     kinds.print();
-    if count < ENOUGH {
+    if wanted.count < ENOUGH {
         return Ok(());
     }
-    kinds.demand_all(count)
+    kinds.demand_all(wanted.count)
+}
+
+fn compare_random_of_version_2() -> Result<(), String> {
+    let wanted = Wanted::new()?;
+    let numbers = wanted.numbers(random::CASES_PER_SHIFTED);
+    let (mut kinds, mut shifted) = (Kinds::new(), ShiftedKinds::new());
+    for number in numbers.clone() {
+        let mut random = Generator::of_case(!wanted.seed, number);
+        let case = shifted_played_case(wanted.seed, number);
+        let answer = compare_case(&case, &mut random, &mut kinds).map_err(|difference| {
+            format!(
+                "version 2, {}: {difference}\n{}",
+                wanted.name(number),
+                described(&case)
+            )
+        })?;
+        shifted.add(&case.file, answer);
+    }
+    println!("version 2:");
+    kinds.print();
+    shifted.print();
+    let cases = numbers.end - numbers.start;
+    if cases < ENOUGH {
+        return Ok(());
+    }
+    kinds.demand_all(cases)?;
+    shifted.demand_all(cases)
 }
 
 fn described(case: &PlayedCase) -> String {
@@ -220,8 +249,41 @@ fn compare_small_phrases() -> Result<(), String> {
     same(playings >= 100 * wanted, "small phrases have few playings")
 }
 
+/// Every playing of the examples of version 2 that are accepted, and one of the others.
+fn compare_examples_of_version_2() -> Result<(), String> {
+    let mut random = Generator::new(random::SEED);
+    let mut playings = 0;
+    for file in [
+        P_SHIFTED.to_vec(),
+        p_lower(),
+        outermost_bells(143, -24),
+        outermost_bells(0, 12),
+    ] {
+        playings += compare_all_playings(&file, &mut random)?;
+    }
+    let refused = refused_of_version_2();
+    for (file, number, place) in &refused {
+        let case = PlayedCase {
+            file: file.clone(),
+            playing: vec![1, 0, 0, 0, 0],
+        };
+        let (number, place) = (*number, *place);
+        compare_play(&case, &Err(Refusal { number, place }), &mut random)
+            .map_err(|difference| format!("{difference}\n{}", described(&case)))?;
+    }
+    println!(
+        "all playings of the examples of version 2 agree: {playings}, and {} that are refused",
+        refused.len()
+    );
+    Ok(())
+}
+
 fn main() -> ExitCode {
-    match compare_small_phrases().and_then(|()| compare_random()) {
+    match compare_small_phrases()
+        .and_then(|()| compare_random())
+        .and_then(|()| compare_examples_of_version_2())
+        .and_then(|()| compare_random_of_version_2())
+    {
         Ok(()) => ExitCode::SUCCESS,
         Err(difference) => {
             println!("compare_playing: FAILED: {difference}");

@@ -2,14 +2,20 @@
 //! that stays untouched.
 //!
 //! COMPARE_COUNT phrases to write (20,000) and as many files to read, of COMPARE_SEED (1), from number COMPARE_FIRST (0)
-//! on; and all files that are stored.
+//! on, and for every four one of version 2; and all files that are stored.
 
+#[path = "common/counts.rs"]
+mod counts;
 #[path = "common/differences.rs"]
 mod differences;
 #[path = "common/lent.rs"]
 mod lent;
 #[path = "common/settings.rs"]
 mod settings;
+#[path = "common/shifted_kinds.rs"]
+mod shifted_kinds;
+#[path = "common/shifted_writing.rs"]
+mod shifted_writing;
 #[path = "common/stored.rs"]
 mod stored;
 #[path = "common/tally.rs"]
@@ -21,18 +27,23 @@ use std::process::ExitCode;
 use differences::{same, same_number};
 use lent::Lent;
 use reference::draft::Draft;
+use reference::examples::{P, P_SHIFTED, outermost_bells, p_shifted_with};
 use reference::foreign::{self, HostPhrase};
-use reference::random::{self, EditedCase, Generator, case, edited_case};
+use reference::random::{
+    self, EditedCase, Generator, case, edited_case, shifted_case, shifted_edited_case,
+};
 use reference::reading::{Refusal, read};
-use reference::writing::{file_length, write};
-use settings::{in_hexadecimal, named, setting};
+use reference::writing::{EditedPhrase, file_length, write};
+use settings::{Wanted, in_hexadecimal, named};
+use shifted_kinds::ShiftedKinds;
+use shifted_writing::ShiftedWriting;
 use stored::stored_files;
 use tally::Tally;
 
 /// So many phrases have to meet every kind; fewer are for a look at one difference.
 const ENOUGH: u64 = 5_000;
-/// 96 bells, and 64 notes that list as many strokes as they can.
-const LONGEST: usize = 1_822;
+/// 96 bells, and 64 notes that list as many strokes as they can; in version 1 and in version 2.
+const LONGEST: [usize; 2] = [1_822, 1_823];
 
 /// What was compared, by its answer.
 #[derive(Default)]
@@ -73,7 +84,8 @@ impl Kinds {
         self.written.add(host_number(expected));
         if let Ok(length) = file_length(&case.phrase) {
             self.rooms[room_kind(case.room, length)] += 1;
-            self.longest += u64::from(length == LONGEST && expected.is_ok());
+            let longest = LONGEST[usize::from(case.phrase.version == 2)];
+            self.longest += u64::from(length == longest && expected.is_ok());
         }
     }
 
@@ -89,16 +101,22 @@ impl Kinds {
         (self.read).print("random files to read that agree, by their answer");
     }
 
-    /// Names a kind that was never met.
-    fn demand_all(&self) -> Result<(), String> {
+    /// Names a kind that was never met; these numbers are met in the version beside those of every version.
+    fn demand_all(&self, beside: &[usize]) -> Result<(), String> {
         let refused = [1, 4, 5, 6, 7, 8, 9, 10, 11, 12];
         // Times have all bits of their fields, and two bells that sound for one key fit their bytes.
         let too_wide = [1, 4, 5, 6, 8, 9, 10, 12];
         demand("written", &self.written, &[0, 16])?;
-        demand("written", &self.written, &refused)?;
-        demand("refused as its file", &self.fitting, &refused)?;
-        demand("only too wide", &self.only_too_wide, &too_wide)?;
-        demand("read", &self.read, &array::from_fn::<_, 13, _>(|n| n))?;
+        demand("read", &self.read, &[0, 2, 3])?;
+        for (what, tally, numbers) in [
+            ("written", &self.written, &refused[..]),
+            ("refused as its file", &self.fitting, &refused),
+            ("only too wide", &self.only_too_wide, &too_wide),
+            ("read", &self.read, &refused),
+        ] {
+            demand(what, tally, numbers)?;
+            demand(what, tally, beside)?;
+        }
         match self.rooms.iter().position(|&count| count == 0) {
             Some(kind) => Err(format!("no buffer was {}", ROOMS[kind])),
             None if self.longest == 0 => Err("no phrase was the longest".to_string()),
@@ -193,7 +211,7 @@ fn compare_read(file: &[u8], random: &mut Generator) -> Result<HostPhrase, Strin
 }
 
 fn first_difference(expected: &HostPhrase, found: &HostPhrase) -> Option<String> {
-    let head = |p: &HostPhrase| [p.version, p.drivers, p.bell_count, p.note_count, p.spare];
+    let head = |p: &HostPhrase| [p.version, p.drivers, p.bell_count, p.note_count, p.shift];
     let (due, seen) = (head(expected), head(found));
     if due != seen {
         return Some(format!("head: expected {due:?}, found {seen:?}"));
@@ -275,9 +293,10 @@ fn compare_refused(
 
 fn described(EditedCase { phrase, room }: &EditedCase) -> String {
     format!(
-        "room {room}, version {}, drivers {}, {} bells {:?}, {} notes {:?}",
+        "room {room}, version {}, drivers {}, shift {}, {} bells {:?}, {} notes {:?}",
         phrase.version,
         phrase.drivers,
+        phrase.shift,
         phrase.bell_count,
         phrase.bells(),
         phrase.note_count,
@@ -285,33 +304,135 @@ fn described(EditedCase { phrase, room }: &EditedCase) -> String {
     )
 }
 
+/// A phrase to write and a file to read, both of this number.
+fn compare_drawn(
+    here: &str,
+    edited: &EditedCase,
+    file: &[u8],
+    random: &mut Generator,
+    kinds: &mut Kinds,
+) -> Result<(), String> {
+    compare_case(edited, random, kinds)
+        .map_err(|difference| format!("{here}: {difference}\n{}", described(edited)))?;
+    compare_file(file, random)
+        .map_err(|difference| format!("{here}: {difference}\nfile {}", in_hexadecimal(file)))?;
+    kinds.read.add(read_number(file));
+    Ok(())
+}
+
 fn compare_random() -> Result<(), String> {
-    let count = setting("COMPARE_COUNT", random::CASES)?;
-    let seed = setting("COMPARE_SEED", random::SEED)?;
-    let first = setting("COMPARE_FIRST", 0)?;
-    if count == 0 {
-        return Err("COMPARE_COUNT is 0: nothing to compare".to_string());
-    }
+    let wanted = Wanted::new()?;
     let mut kinds = Kinds::default();
-    for number in first..first + count {
-        let mut random = Generator::of_case(!seed, number);
-        let here = format!("COMPARE_SEED={seed} COMPARE_FIRST={number}");
-
-        let edited = edited_case(seed, number);
-        compare_case(&edited, &mut random, &mut kinds)
-            .map_err(|difference| format!("{here}: {difference}\n{}", described(&edited)))?;
-
-        let file = case(seed, number).file;
-        compare_file(&file, &mut random).map_err(|difference| {
-            format!("{here}: {difference}\nfile {}", in_hexadecimal(&file))
-        })?;
-        kinds.read.add(read_number(&file));
+    for number in wanted.numbers(1) {
+        let mut random = Generator::of_case(!wanted.seed, number);
+        let edited = edited_case(wanted.seed, number);
+        let file = case(wanted.seed, number).file;
+        let here = wanted.name(number);
+        compare_drawn(&here, &edited, &file, &mut random, &mut kinds)?;
     }
     kinds.print();
-    if count < ENOUGH {
+    if wanted.count < ENOUGH {
         return Ok(());
     }
-    kinds.demand_all()
+    kinds.demand_all(&[])
+}
+
+fn compare_random_of_version_2() -> Result<(), String> {
+    let wanted = Wanted::new()?;
+    let numbers = wanted.numbers(random::CASES_PER_SHIFTED);
+    let mut kinds = Kinds::default();
+    let (mut written, mut read) = (ShiftedWriting::new(), ShiftedKinds::new());
+    for number in numbers.clone() {
+        let mut random = Generator::of_case(!wanted.seed, number);
+        let edited = shifted_edited_case(wanted.seed, number);
+        let file = shifted_case(wanted.seed, number).file;
+        let here = format!("version 2, {}", wanted.name(number));
+        compare_drawn(&here, &edited, &file, &mut random, &mut kinds)?;
+        written.add(&edited.phrase);
+        read.add(&file, read_number(&file));
+    }
+    println!("version 2:");
+    kinds.print();
+    written.print();
+    read.print();
+    let cases = numbers.end - numbers.start;
+    if cases < ENOUGH {
+        return Ok(());
+    }
+    kinds.demand_all(&[19])?;
+    written.demand_all(cases)?;
+    read.demand_all(cases)
+}
+
+/// Numbers that could be taken for a byte or for a signed word.
+fn words() -> impl Iterator<Item = u32> {
+    (0..=512).chain((0..=300).map(|less| u32::MAX - less))
+}
+
+/// Writes a phrase of an example after a change; gives whether it is sound.
+fn compare_changed(phrase: &EditedPhrase, random: &mut Generator) -> Result<bool, String> {
+    const ROOM: usize = 60;
+    let expected = write(phrase, ROOM);
+    let host = HostPhrase::of(phrase, || derived_or_spare(random));
+    compare_write(&host, ROOM, &expected, random)
+        .map_err(|difference| format!("{difference}\nversion {}, {phrase:?}", phrase.version))?;
+    Ok(expected.is_ok())
+}
+
+/// Every key with every shift in range or just beyond, read; and, keys that are too wide as well, written.
+fn compare_keys_and_shifts() -> Result<(), String> {
+    let mut random = Generator::new(random::SEED);
+    let (mut are_read, mut are_written) = (0, 0);
+    for shift in -25..=25 {
+        for key in 0..=255 {
+            let file = outermost_bells(key, shift);
+            compare_file(&file, &mut random)
+                .map_err(|difference| format!("file {}: {difference}", in_hexadecimal(&file)))?;
+            are_read += u64::from(read(&file).is_ok());
+        }
+    }
+    let mut phrase = edited(&outermost_bells(12, 0));
+    for shift in -24..=24 {
+        phrase.shift = u32::from(shift as u8);
+        for key in words() {
+            phrase.notes[0].key = key;
+            are_written += u64::from(compare_changed(&phrase, &mut random)?);
+        }
+    }
+    println!("all keys with all shifts agree: {are_read} find a bell, {are_written} are written");
+    // The upper bell with each of 49 shifts, the lower one with none above 12.
+    let all_met = [are_read, are_written] == [49 + 37; 2];
+    same(all_met, "other keys than there should be find a bell")
+}
+
+/// Every shift read in version 2, and, shifts that are too wide as well, written in both versions.
+fn compare_shifts() -> Result<(), String> {
+    let mut random = Generator::new(random::SEED);
+    for shift in 0..=255 {
+        compare_file(&p_shifted_with(6, shift), &mut random)
+            .map_err(|difference| format!("shift {shift}: {difference}"))?;
+    }
+    let mut are_written = 0;
+    for mut phrase in [edited(&P), edited(&P_SHIFTED)] {
+        // Without notes, any shift in range is sound.
+        for note_count in [0, 2] {
+            phrase.note_count = note_count;
+            for shift in words() {
+                phrase.shift = shift;
+                are_written += u64::from(compare_changed(&phrase, &mut random)?);
+            }
+        }
+    }
+    println!("all shifts agree, {are_written} are written");
+    // In version 1 only 0, with notes and without; in version 2 all without notes, and the one that they are written for.
+    same(
+        are_written == 2 + 49 + 1,
+        "other shifts than there should be are sound",
+    )
+}
+
+fn edited(example: &[u8]) -> EditedPhrase {
+    EditedPhrase::from(&read(example).expect("the example is sound"))
 }
 
 fn compare_stored() -> Result<(), String> {
@@ -332,7 +453,12 @@ fn compare_stored() -> Result<(), String> {
 }
 
 fn main() -> ExitCode {
-    match compare_stored().and_then(|()| compare_random()) {
+    match compare_random()
+        .and_then(|()| compare_stored())
+        .and_then(|()| compare_keys_and_shifts())
+        .and_then(|()| compare_shifts())
+        .and_then(|()| compare_random_of_version_2())
+    {
         Ok(()) => ExitCode::SUCCESS,
         Err(difference) => {
             println!("compare_writing: FAILED: {difference}");

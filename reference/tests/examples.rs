@@ -1,4 +1,4 @@
-//! Every example of document 01.
+//! Every example of document 01, and P with a shift.
 
 use reference::check::{Answer, Check, HOST_WORDS, check};
 use reference::examples::*;
@@ -65,6 +65,27 @@ fn refusals_of_reading_have_their_places() {
         let line = format!("refused {number} at {place}\n");
         assert_refused(&file, HOST_WORDS, number, place, &line);
         // Refusals of reading come before 13.
+        assert_refused(&file, 0, number, place, &line);
+    }
+}
+
+#[test]
+fn p_with_a_shift_is_reported_with_shifted_keys() {
+    assert_eq!(report_text(&P_SHIFTED, HOST_WORDS), P_REPORT);
+    assert_eq!(report_text(&p_lower(), HOST_WORDS), P_LOWER_REPORT);
+    assert_accepted(&P_SHIFTED, 32, &[(2, 7), (4, 6)], 4);
+    assert_refused(&P_SHIFTED, 31, 13, 1, "refused 13 level 1\n");
+    // Stroke 0 due 6.
+    let late = p_shifted_with(36, 0x06);
+    let line = "refused 14 stroke 0 ends 6..7\n";
+    assert_eq!(report_text(&late, HOST_WORDS), line);
+}
+
+#[test]
+fn refusals_of_reading_have_their_places_in_version_2() {
+    for (file, number, place) in refused_of_version_2() {
+        let line = format!("refused {number} at {place}\n");
+        assert_refused(&file, HOST_WORDS, number, place, &line);
         assert_refused(&file, 0, number, place, &line);
     }
 }

@@ -184,7 +184,7 @@ fn note_fields_have_their_limits() {
 #[test]
 fn the_first_rule_in_order_answers() {
     assert_eq!(
-        answer(|d| (d.version, d.count_error) = (2, 1)),
+        answer(|d| (d.version, d.count_error) = (3, 1)),
         Some((1, 0))
     );
     assert_eq!(
@@ -218,6 +218,131 @@ fn the_first_rule_in_order_answers() {
 }
 
 #[test]
+fn only_versions_1_and_2_are_read() {
+    for version in 0..=255 {
+        // 5 bytes, none of them the driver count.
+        let expected = match version {
+            1 | 2 => Some((3, 5)),
+            _ => Some((1, 0)),
+        };
+        assert_eq!(refused(&[version, 0, 0, 0, 0]), expected, "{version}");
+        let expected = match version {
+            1 => Some((5, 6)),
+            2 => None,
+            _ => Some((1, 0)),
+        };
+        assert_eq!(refused(&p_shifted_with(0, version)), expected, "{version}");
+    }
+}
+
+/// The refusal of the same five bells and notes in version 2, shift 0, after a change.
+fn answer_2(change: impl FnOnce(&mut Draft)) -> Option<(u64, u64)> {
+    answer(|d| {
+        (d.version, d.shift) = (2, Some(0));
+        change(d);
+    })
+}
+
+#[test]
+fn the_shift_has_its_limits() {
+    for byte in 0..=255 {
+        let found = answer_2(|d| {
+            d.shift = Some(byte as i8);
+            d.stroke_count = 0;
+            d.notes.clear();
+        });
+        // As a signed byte, 232 is -24.
+        let expected = match byte {
+            0..=24 | 232..=255 => None,
+            _ => Some((19, 6)),
+        };
+        assert_eq!(found, expected, "{byte}");
+    }
+}
+
+#[test]
+fn a_key_and_a_shift_find_the_bell_of_their_sum() {
+    let (mut above, mut below) = (0, 0);
+    for shift in -24..=24 {
+        for key in 0..=255 {
+            let mut draft = sound();
+            (draft.version, draft.shift) = (2, Some(shift));
+            draft.stroke_count = 1;
+            draft.notes = vec![DraftNote::new(key, 5, 5, 9, vec![])];
+            let sum = i64::from(key) + i64::from(shift);
+            let bell = [40, 36, 84, 12, 119].iter().position(|&k| k == sum);
+            above += u64::from(key > 119 && bell.is_some());
+            below += u64::from(key < 12 && bell.is_some());
+            match read(&draft.bytes()) {
+                Ok(phrase) => {
+                    let stroke = &phrase.strokes[0];
+                    assert_eq!(phrase.shift, i64::from(shift));
+                    assert_eq!((stroke.written, stroke.key), (key, sum));
+                    assert_eq!(Some(stroke.bell), bell);
+                }
+                Err(Refusal { number, place }) => {
+                    assert_eq!((number, place), (10, 8 + 35 + 1));
+                    assert_eq!(bell, None, "{key} {shift}");
+                }
+            }
+        }
+    }
+    // 119 from 120 to 143, by shifts -1 to -24; 12 from 11 to 0, by shifts 1 to 12.
+    assert_eq!((above, below), (24, 12));
+}
+
+#[test]
+fn the_first_rule_in_order_answers_in_version_2() {
+    let count_and_drivers = |d: &mut Draft| (d.count_error, d.drivers) = (1, 0);
+    assert_eq!(answer_2(count_and_drivers), Some((2, 0)));
+    for shift in [25, -25, 127, -128] {
+        // 4, then 19, then 5.
+        assert_eq!(
+            answer_2(|d| (d.drivers, d.shift) = (0, Some(shift))),
+            Some((4, 5))
+        );
+        assert_eq!(
+            answer_2(|d| (d.shift, d.bell_count) = (Some(shift), 0)),
+            Some((19, 6))
+        );
+        // 19 although the bell count passes the end.
+        assert_eq!(
+            refused(&[2, 0, 0, 0, 2, 1, shift as u8]),
+            Some((19, 6)),
+            "{shift}"
+        );
+    }
+    // 4 although the shift passes the end.
+    assert_eq!(refused(&[2, 0, 0, 0, 1, 9]), Some((4, 5)));
+    assert_eq!(answer_2(|d| d.bell_count = 0), Some((5, 7)));
+    assert_eq!(answer_2(|d| d.bell_count = 97), Some((5, 7)));
+
+    // The records of version 2 have the order that they had, one byte further on.
+    let (bell_2, note_4) = (BELL_2 + 1, NOTE_4 + 1);
+    assert_eq!(answer_2(|d| d.bells[2].ca = 0), Some((6, bell_2)));
+    assert_eq!(answer_2(|d| d.bells[2].written = 12), Some((7, bell_2)));
+    assert_eq!(answer_2(|d| d.stroke_count = 65), Some((8, 8 + 35)));
+    assert_eq!(answer_2(|d| d.notes[4].length = 18), Some((9, note_4)));
+    let note =
+        |key, ra, waits: Vec<u8>| answer_2(|d| d.notes[4] = DraftNote::new(key, ra, 5, 9, waits));
+    assert_eq!(note(118, 6, vec![4]), Some((10, note_4)));
+    assert_eq!(note(119, 6, vec![4]), Some((11, note_4)));
+    assert_eq!(note(119, 5, vec![4]), Some((12, note_4)));
+    assert_eq!(answer_2(|d| d.rest = vec![0]), Some((3, note_4 + 14)));
+}
+
+#[test]
+fn a_head_of_one_version_before_the_rest_of_the_other_is_read_by_the_head() {
+    // P's bell count is taken for the shift 2, its first written key for the bell count.
+    assert_eq!(refused(&p_with(0, 2)), Some((6, 8)));
+    // The shift -3 is taken for a bell count of 253; the shift 1 for one of 1, before what is no bell.
+    assert_eq!(refused(&p_shifted_with(0, 1)), Some((5, 6)));
+    let mut file = p_shifted_with(0, 1);
+    file[6] = 1;
+    assert_eq!(refused(&file), Some((6, 7)));
+}
+
+#[test]
 fn p_cut_anywhere_is_refused_where_the_cut_field_or_record_begins() {
     for length in 0..P.len() {
         let mut file = P[..length].to_vec();
@@ -239,6 +364,28 @@ fn p_cut_anywhere_is_refused_where_the_cut_field_or_record_begins() {
 }
 
 #[test]
+fn p_in_version_2_cut_anywhere_is_refused_where_the_cut_field_or_record_begins() {
+    for length in 0..P_SHIFTED.len() {
+        let mut file = P_SHIFTED[..length].to_vec();
+        let number = if length < 5 { 2 } else { 3 };
+        let place = match length {
+            0..5 => 0,
+            5 => 5,
+            6 => 6,
+            7 => 7,
+            8..15 => 8,
+            15..22 => 15,
+            22 => 22,
+            23..37 => 23,
+            _ => 37,
+        };
+        assert_eq!(refused(&file), Some((2, 0)), "the count is wrong");
+        correct_count(&mut file, 0);
+        assert_eq!(refused(&file), Some((number, place)), "{length} bytes");
+    }
+}
+
+#[test]
 fn bytes_that_remain_are_refused_where_they_begin() {
     for more in 1..4 {
         let mut file = P.to_vec();
@@ -246,5 +393,10 @@ fn bytes_that_remain_are_refused_where_they_begin() {
         assert_eq!(refused(&file), Some((2, 0)));
         correct_count(&mut file, 0);
         assert_eq!(refused(&file), Some((3, 50)));
+        let mut file = P_SHIFTED.to_vec();
+        file.resize(P_SHIFTED.len() + more, 0);
+        assert_eq!(refused(&file), Some((2, 0)));
+        correct_count(&mut file, 0);
+        assert_eq!(refused(&file), Some((3, 51)));
     }
 }

@@ -1,6 +1,10 @@
 //! Playings: runs worked by hand, both refusals in each way and their order, and the two ways to run held against each
 //! other.
 
+#[path = "common/counts.rs"]
+mod counts;
+#[path = "common/shifted_kinds.rs"]
+mod shifted_kinds;
 #[path = "common/tally.rs"]
 mod tally;
 
@@ -12,8 +16,11 @@ use reference::draft::{Draft, DraftBell, DraftNote, correct_count, playing_bytes
 use reference::events::by_events;
 use reference::examples::*;
 use reference::playing::{Played, literally, play, play_by, read_playing};
-use reference::random::{CASES, Generator, SEED, longest, played_case, scenario};
+use reference::random::{
+    CASES, CASES_PER_SHIFTED, Generator, SEED, longest, played_case, scenario, shifted_played_case,
+};
 use reference::reading::{Refusal, read};
+use shifted_kinds::ShiftedKinds;
 use tally::Tally;
 
 /// P with stroke 0 called at 5: the version, a count of 12, then two strokes.
@@ -69,6 +76,8 @@ fn free(drivers: u8, strokes: &[(u8, &[u8])]) -> Vec<u8> {
 fn p_is_played_as_worked_by_hand() {
     assert_played(&P, &P_PLAYING, &[(5, 7), (0, 4)]);
     assert_eq!(playing(&[(5, 2), (0, 4)]), P_PLAYING);
+    assert_played(&P_SHIFTED, &P_PLAYING, &[(5, 7), (0, 4)]);
+    assert_played(&p_lower(), &P_PLAYING, &[(5, 7), (0, 4)]);
     // Called at the same moment, stroke 0 goes first by rank; else it waits for the one driver, and may start in the
     // millisecond in which that is freed.
     for (call, expected) in [
@@ -165,6 +174,30 @@ fn strokes_of_one_bell_wait_for_each_other() {
     let calls = [(4, 5), (0, 9), (0, 2), (0, 3)];
     let expected = [(4, 9), (0, 9), (9, 11), (11, 14)];
     assert_played(&file, &playing(&calls), &expected);
+}
+
+#[test]
+fn strokes_wait_for_those_of_the_bell_that_they_really_strike() {
+    let bell = |written, rank| DraftBell {
+        written,
+        transposition: 0,
+        ca: 1,
+        cb: 9,
+        rank,
+    };
+    let note = |key| DraftNote::new(key, 0, 9, 3_600_000, vec![]);
+    // As written, strokes 0 and 2 would be of bell 1 and stroke 1 of bell 2; shifted, they are of bells 0 and 1, and stroke 1
+    // goes first.
+    let bells = vec![bell(60, 3), bell(63, 2), bell(66, 9)];
+    let mut draft = Draft::new(1, bells, vec![note(63), note(66), note(63)]);
+    (draft.version, draft.shift) = (2, Some(-3));
+    let phrase = read(&draft.bytes()).unwrap();
+    let struck: Vec<_> = phrase.strokes.iter().map(|s| (s.bell, s.rank)).collect();
+    assert_eq!(struck, [(0, 3), (1, 2), (0, 3)]);
+    assert_eq!(phrase.strokes[2].waits, [0]);
+    let calls = [(1, 5), (1, 4), (0, 2)];
+    let expected = [(5, 10), (1, 5), (10, 12)];
+    assert_played(&draft.bytes(), &playing(&calls), &expected);
 }
 
 #[test]
@@ -377,7 +410,10 @@ fn reading_refuses_first_then_17_then_18() {
         (p_with(37, 0x3E), 10, 36),
         (p_with(27, 0x06), 11, 22),
         (p_waiting_for_itself(), 12, 36),
-    ] {
+    ]
+    .into_iter()
+    .chain(refused_of_version_2())
+    {
         for playing in [&P_PLAYING[..], &out_of_range, &malformed, &too_many, &[]] {
             assert_eq!(refused(&file, playing), Some((number, place)));
         }
@@ -448,4 +484,23 @@ fn each_kind_of_answer_is_frequent() {
     for kind in [0, 17, 18] {
         assert!(kinds.counts[kind] * 10 >= CASES, "kind {kind} is rare");
     }
+}
+
+#[test]
+fn each_kind_of_answer_is_frequent_in_version_2() {
+    let cases = CASES / CASES_PER_SHIFTED;
+    let mut kinds = ShiftedKinds::new();
+    for number in 0..cases {
+        let case = shifted_played_case(SEED, number);
+        let answer = play_by(&case.file, &case.playing, by_events);
+        let answer = answer.map_or_else(Refusal::host_number, |_| 0);
+        kinds.add(&case.file, answer);
+    }
+    (kinds.answers).print("playings of version 2, by their answer");
+    kinds.print();
+    for kind in (0..=12).chain([17, 18, 19]) {
+        let often = kinds.answers.counts[kind] * 400 >= cases;
+        assert!(often, "kind {kind} is rare");
+    }
+    kinds.demand_all(cases).unwrap();
 }

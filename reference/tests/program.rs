@@ -2,7 +2,7 @@
 
 use reference::check::check;
 use reference::printed::result;
-use reference::random::{CASES, Case, case};
+use reference::random::{CASES, CASES_PER_SHIFTED, Case, case, shifted_case};
 use reference::reading;
 use reference::walk::words_per_state;
 use std::env;
@@ -104,10 +104,10 @@ impl Batch {
     }
 }
 
-#[test]
-fn the_program_agrees_on_random_phrases() {
+/// So many cases of a stream.
+fn compare(count: u64, case: fn(u64, u64) -> Case) {
     let mut batch = Batch::new();
-    for number in 0..count() {
+    for number in 0..count {
         let mut case = case(SEED, number);
         case.table_words = case.table_words.min(TABLE_WORDS);
         let frame = frame(&case);
@@ -119,4 +119,14 @@ fn the_program_agrees_on_random_phrases() {
         batch.cases.push((number, case));
     }
     batch.compare();
+}
+
+#[test]
+fn the_program_agrees_on_random_phrases() {
+    compare(count(), case);
+}
+
+#[test]
+fn the_program_agrees_on_random_phrases_of_version_2() {
+    compare(count().div_ceil(CASES_PER_SHIFTED), shifted_case);
 }

@@ -1,9 +1,11 @@
 //! What must hold of every answer, whatever the phrase.
 
 use reference::check::{Answer, HOST_WORDS, check_phrase};
-use reference::draft::DraftNote;
+use reference::draft::{Draft, DraftNote};
 use reference::random::{self, Generator, TINY, case};
-use reference::reading::read;
+use reference::reading::{Phrase, Stroke, read};
+use reference::report::check_and_text;
+use reference::writing::EditedPhrase;
 
 const FULL: u64 = 13;
 
@@ -68,4 +70,99 @@ fn a_due_time_before_the_call_is_read_but_never_accepted() {
         let answer = check_phrase(&phrase, HOST_WORDS).answer;
         assert!(matches!(answer, Answer::Late { stroke: late, .. } if late == stroke));
     }
+}
+
+/// The strokes but for the keys as written, which nothing but the writer uses.
+fn jobs(phrase: &Phrase) -> Vec<Stroke> {
+    let mut strokes = phrase.strokes.clone();
+    strokes.iter_mut().for_each(|stroke| stroke.written = 0);
+    strokes
+}
+
+/// A draft of version 1 that the reader takes, with every shift for which its keys can be written: jobs, verdict and text
+/// stay what they are. Gives the number of shifts.
+fn assert_shifts_change_nothing(draft: &Draft, table_words: usize, shifts: &[i8]) -> u64 {
+    let file = draft.bytes();
+    let phrase = read(&file).expect("the draft is valid");
+    let due = check_and_text(&file, table_words);
+    let mut tried = 0;
+    for &shift in shifts {
+        let Some(shifted) = draft.clone().shifted(shift) else {
+            continue;
+        };
+        tried += 1;
+        let shifted_file = shifted.bytes();
+        let shifted = read(&shifted_file).expect("the same bells are struck");
+        assert_eq!((shifted.version, shifted.shift), (2, shift.into()));
+        assert_eq!(shifted.bells, phrase.bells);
+        assert_eq!(jobs(&shifted), jobs(&phrase));
+        let found = check_and_text(&shifted_file, table_words);
+        assert!(found == due, "shift {shift} of {draft:?}");
+    }
+    tried
+}
+
+#[test]
+fn a_shift_that_the_keys_take_back_changes_no_job_verdict_or_text() {
+    let all: Vec<i8> = (-24..=24).collect();
+    let mut random = Generator::new(104);
+    let mut tried = 0;
+    for _ in 0..400 {
+        let draft = random::draft(&mut random, &TINY);
+        let draft = random::tuned(&mut random, draft);
+        tried += assert_shifts_change_nothing(&draft, HOST_WORDS, &all);
+    }
+    println!("small phrases, each with up to 49 shifts: {tried}");
+    assert!(tried > 400 * 40);
+
+    let (mut phrases, mut tried) = (0, 0);
+    for number in 0..2_000 {
+        let case = case(104, number);
+        let Ok(phrase) = read(&case.file) else {
+            continue;
+        };
+        let draft = Draft::of(&EditedPhrase::from(&phrase)).expect("what was read fits");
+        // Shift 0 beside another: the file of version 2 that differs least.
+        let shift = random.range(0, 48) as i8 - 24;
+        phrases += 1;
+        tried += assert_shifts_change_nothing(&draft, case.table_words, &[0, shift]);
+    }
+    println!("phrases of all shapes: {phrases}, shifted {tried} times");
+    assert!(phrases > 1_000 && tried * 2 > phrases * 3);
+}
+
+#[test]
+fn bells_that_are_moved_by_the_shift_are_struck_by_the_same_notes() {
+    let mut random = Generator::new(105);
+    let (mut accepted, mut missing) = (0, 0);
+    for _ in 0..2_000 {
+        let draft = random::draft(&mut random, &TINY);
+        let phrase = read(&draft.bytes()).expect("drawn phrases are valid");
+        // The notes stay as they are written, on an instrument that sounds so much higher or lower.
+        let shift = random.range(0, 48) as i8 - 24;
+        let mut moved = draft.clone();
+        (moved.version, moved.shift) = (2, Some(shift));
+        for bell in &mut moved.bells {
+            let sounding = i16::from(bell.written) + i16::from(bell.transposition);
+            let sounding = (sounding + i16::from(shift)).clamp(0, 127);
+            (bell.written, bell.transposition) = (sounding as u8, 0);
+        }
+        let Ok(moved) = read(&moved.bytes()) else {
+            // A bell would sound below 12 or above 119.
+            missing += 1;
+            continue;
+        };
+        let (due, found) = (
+            check_phrase(&phrase, HOST_WORDS),
+            check_phrase(&moved, HOST_WORDS),
+        );
+        assert_eq!(found, due);
+        accepted += u64::from(found.is_accepted());
+        for (a, b) in phrase.strokes.iter().zip(&moved.strokes) {
+            assert_eq!((b.key, b.bell), (a.key + i64::from(shift), a.bell));
+            assert_eq!((&b.waits, b.written), (&a.waits, a.written));
+        }
+    }
+    println!("moved with their bells: {accepted} accepted, {missing} with a bell out of range");
+    assert!(accepted > 500 && missing > 100);
 }

@@ -1,13 +1,13 @@
 //! Runs of the dispatch rule held against demand 3: all of small phrases, many of larger ones.
 //!
-//! SCENARIO_PHRASES small phrases (1,500) and SCENARIO_CASES cases of the stream (6,000).
+//! SCENARIO_PHRASES small phrases (1,500) and SCENARIO_CASES cases of the stream (6,000), and for every four one of version 2.
 
 use reference::check::{Answer, Check, HOST_WORDS, check, check_phrase};
 use reference::dispatch::{
     Breach, Scenario, State, Status, all_scenarios, demand_3, play, scenario_count, states,
 };
 use reference::examples::*;
-use reference::random::{self, Generator, Shape, TINY};
+use reference::random::{self, Case, Generator, Shape, TINY};
 use reference::range::Range;
 use reference::reading::{Phrase, read};
 
@@ -128,12 +128,12 @@ fn small_phrases_keep_demand_3_in_all_scenarios() {
     assert!(reached * 4 > strokes * 3);
 }
 
-#[test]
-fn larger_phrases_keep_demand_3_in_random_scenarios() {
+/// So many cases of a stream, where they are accepted.
+fn assert_random_scenarios(cases: u64, case: fn(u64, u64) -> Case) {
     let mut random = Generator::new(8);
     let (mut phrases, mut strokes, mut scenarios) = (0, 0, 0);
-    for number in 0..setting("SCENARIO_CASES", 6_000) {
-        let Some((phrase, check)) = accepted(&random::case(8, number).file) else {
+    for number in 0..cases {
+        let Some((phrase, check)) = accepted(&case(8, number).file) else {
             continue;
         };
         // Long runs are walked millisecond by millisecond too: a few are enough.
@@ -152,6 +152,17 @@ fn larger_phrases_keep_demand_3_in_random_scenarios() {
     }
     println!("{phrases} phrases with {strokes} strokes, {scenarios} scenarios");
     assert!(phrases > 0);
+}
+
+#[test]
+fn larger_phrases_keep_demand_3_in_random_scenarios() {
+    assert_random_scenarios(setting("SCENARIO_CASES", 6_000), random::case);
+}
+
+#[test]
+fn shifted_phrases_keep_demand_3_in_random_scenarios() {
+    let cases = setting("SCENARIO_CASES", 6_000).div_ceil(4);
+    assert_random_scenarios(cases, random::shifted_case);
 }
 
 #[test]

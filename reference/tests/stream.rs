@@ -1,17 +1,24 @@
 //! The random stream is worth comparing on: every kind of answer and every shape is frequent, and
 //! large phrases are there. A change of the draw that loses any of this fails here.
 
+#[path = "common/counts.rs"]
+mod counts;
+#[path = "common/shifted_kinds.rs"]
+mod shifted_kinds;
 #[path = "common/tally.rs"]
 mod tally;
 
 use std::sync::LazyLock;
 
 use reference::check::{Check, HOST_WORDS, check, check_phrase};
+use reference::draft::Draft;
 use reference::random::{
-    CASES, CASES_PER_WIDEST, Case, Generator, SEED, case, damaged, widest_case,
+    CASES, CASES_PER_SHIFTED, CASES_PER_WIDEST, Case, Generator, SEED, TINY, case, damaged, draft,
+    shifted_case, widest_case,
 };
 use reference::reading::{Phrase, Refusal, read};
 use reference::walk::{Outcome, Walk, capacity, walk};
+use shifted_kinds::ShiftedKinds;
 use tally::Tally;
 
 struct Seen {
@@ -28,7 +35,7 @@ struct Walked {
     host: Walk,
 }
 
-/// All that is compared but the cases with calls at 0, for all tests.
+/// All of version 1 that is compared but the cases with calls at 0, for all tests.
 static STREAM: LazyLock<Vec<Seen>> = LazyLock::new(|| {
     let cases = (0..CASES).map(|number| case(SEED, number));
     let widest = (0..CASES / CASES_PER_WIDEST).map(|number| widest_case(SEED, number));
@@ -77,6 +84,31 @@ fn each_kind_of_answer_is_frequent() {
     for kind in [0, 13, 14] {
         assert!(host.counts[kind] * 50 >= CASES, "kind {kind} is rare");
     }
+}
+
+#[test]
+fn each_kind_of_answer_shift_and_key_is_frequent_in_version_2() {
+    /// One byte more than a file of version 1.
+    const LONGEST: usize = 1_823;
+
+    let cases = CASES / CASES_PER_SHIFTED;
+    let mut kinds = ShiftedKinds::new();
+    let mut longest = 0;
+    for number in 0..cases {
+        let Case { file, table_words } = shifted_case(SEED, number);
+        let answer = check(&file, table_words).host_number();
+        kinds.add(&file, answer);
+        longest += u64::from(answer == 0 && file.len() == LONGEST);
+    }
+    (kinds.answers).print("version 2 in tables of many lengths");
+    kinds.print();
+    println!("{longest} of the longest files are accepted");
+    for kind in (0..=14).chain([19]) {
+        let often = kinds.answers.counts[kind] * 400 >= cases;
+        assert!(often, "kind {kind} is rare");
+    }
+    kinds.demand_all(cases).unwrap();
+    assert!(longest >= 10);
 }
 
 #[test]
@@ -207,38 +239,54 @@ fn damage_at_a_limit_is_not_always_harm() {
 
 #[test]
 fn a_phrase_is_read_as_it_was_drawn() {
-    use reference::random::{TINY, draft};
     let mut random = Generator::new(SEED);
+    let mut shifted = 0;
     for _ in 0..500 {
         let draft = draft(&mut random, &TINY);
-        let phrase = read(&draft.bytes()).expect("drawn phrases are valid");
-        assert_eq!(phrase.drivers, usize::from(draft.drivers));
-        assert_eq!(phrase.bells.len(), draft.bells.len());
-        assert_eq!(phrase.strokes.len(), draft.notes.len());
-        for (number, (stroke, note)) in phrase.strokes.iter().zip(&draft.notes).enumerate() {
-            let bell = &draft.bells[stroke.bell];
-            let sounds = i64::from(bell.written) + i64::from(bell.transposition);
-            assert_eq!((stroke.key, stroke.key), (sounds, i64::from(note.key)));
-            assert_eq!(
-                (stroke.call.low, stroke.call.high),
-                (note.ra.into(), note.rb.into())
-            );
-            assert_eq!(
-                (stroke.hold.low, stroke.hold.high),
-                (bell.ca.into(), bell.cb.into())
-            );
-            assert_eq!(
-                (stroke.due, stroke.rank),
-                (note.due.into(), bell.rank.into())
-            );
-            let same_bell = (0..number)
-                .rev()
-                .find(|&i| phrase.strokes[i].bell == stroke.bell);
-            for i in 0..64 {
-                let awaited = note.waits.contains(&(i as u8)) || same_bell == Some(i);
-                assert_eq!(stroke.waits.contains(&i), awaited);
-            }
+        assert_read_as_drawn(&draft);
+        let shift = random.range(0, 48) as i8 - 24;
+        if let Some(draft) = draft.shifted(shift) {
+            assert_read_as_drawn(&draft);
+            shifted += 1;
         }
-        assert_eq!(check_phrase(&phrase, 99), check(&draft.bytes(), 99));
     }
+    assert!(shifted > 400, "{shifted}");
+}
+
+fn assert_read_as_drawn(draft: &Draft) {
+    let phrase = read(&draft.bytes()).expect("drawn phrases are valid");
+    let shift = i64::from(draft.shift.unwrap_or(0));
+    assert_eq!(
+        (phrase.version, phrase.shift),
+        (draft.version.into(), shift)
+    );
+    assert_eq!(phrase.drivers, usize::from(draft.drivers));
+    assert_eq!(phrase.bells.len(), draft.bells.len());
+    assert_eq!(phrase.strokes.len(), draft.notes.len());
+    for (number, (stroke, note)) in phrase.strokes.iter().zip(&draft.notes).enumerate() {
+        let bell = &draft.bells[stroke.bell];
+        let sounds = i64::from(bell.written) + i64::from(bell.transposition);
+        assert_eq!((stroke.key, stroke.written), (sounds, note.key));
+        assert_eq!(stroke.key, i64::from(note.key) + shift);
+        assert_eq!(
+            (stroke.call.low, stroke.call.high),
+            (note.ra.into(), note.rb.into())
+        );
+        assert_eq!(
+            (stroke.hold.low, stroke.hold.high),
+            (bell.ca.into(), bell.cb.into())
+        );
+        assert_eq!(
+            (stroke.due, stroke.rank),
+            (note.due.into(), bell.rank.into())
+        );
+        let same_bell = (0..number)
+            .rev()
+            .find(|&i| phrase.strokes[i].bell == stroke.bell);
+        for i in 0..64 {
+            let awaited = note.waits.contains(&(i as u8)) || same_bell == Some(i);
+            assert_eq!(stroke.waits.contains(&i), awaited);
+        }
+    }
+    assert_eq!(check_phrase(&phrase, 99), check(&draft.bytes(), 99));
 }

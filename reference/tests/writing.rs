@@ -1,5 +1,9 @@
 //! The writer: files to the byte, every refusal with its place, and what it has in common with the reader.
 
+#[path = "common/counts.rs"]
+mod counts;
+#[path = "common/shifted_writing.rs"]
+mod shifted_writing;
 #[path = "common/stored.rs"]
 mod stored;
 #[path = "common/tally.rs"]
@@ -7,9 +11,13 @@ mod tally;
 
 use reference::draft::Draft;
 use reference::examples::*;
-use reference::random::{CASES, EditedCase, Generator, SEED, edited_case, longest};
+use reference::random::{
+    CASES, CASES_PER_SHIFTED, EditedCase, Generator, SEED, edited_case, longest,
+    shifted_edited_case,
+};
 use reference::reading::{Refusal, read};
 use reference::writing::{EditedBell, EditedNote, EditedPhrase, write, write_into};
+use shifted_writing::ShiftedWriting;
 use stored::stored_files;
 use tally::Tally;
 
@@ -43,6 +51,7 @@ fn phrase(drivers: u32, bells: &[EditedBell], notes: &[EditedNote]) -> EditedPhr
     let mut phrase = EditedPhrase {
         version: 1,
         drivers,
+        shift: 0,
         bell_count: bells.len() as u32,
         note_count: notes.len() as u32,
         bells: [bell([u32::MAX; 5]); 96],
@@ -89,6 +98,25 @@ const LIMITS_FILE: [u8; 67] = [
     0x00, 0x01,
 ];
 
+/// The same phrase in version 2 with this shift: every key is written so much lower.
+fn shifted(mut phrase: EditedPhrase, shift: i8) -> EditedPhrase {
+    phrase.version = 2;
+    phrase.shift = u32::from(shift as u8);
+    for note in &mut phrase.notes[..phrase.note_count as usize] {
+        note.key = note.key.checked_add_signed(-i32::from(shift)).unwrap();
+    }
+    phrase
+}
+
+/// `LIMITS_FILE` in version 2: the count, the shift, and the keys of its notes are others.
+fn limits_shifted_file(shift: u8, keys: [u8; 3]) -> Vec<u8> {
+    let mut file = LIMITS_FILE.to_vec();
+    (file[0], file[4]) = (2, 0x3F);
+    (file[23], file[37], file[52]) = (keys[0], keys[1], keys[2]);
+    file.insert(6, shift);
+    file
+}
+
 /// Room for every file.
 const ENOUGH: usize = 4_096;
 
@@ -120,6 +148,18 @@ fn limits_signs_and_waits_have_their_bytes() {
 }
 
 #[test]
+fn a_phrase_of_version_2_is_written_with_its_shift_and_its_keys_as_written() {
+    assert_eq!(write(&shifted(p(), -3), ENOUGH), Ok(P_SHIFTED.to_vec()));
+    let written = |shift| write(&shifted(limits(), shift), ENOUGH);
+    let file = limits_shifted_file(0xE8, [60, 143, 60]);
+    assert_eq!(written(-24), Ok(file));
+    let file = limits_shifted_file(0x18, [12, 95, 12]);
+    assert_eq!(written(24), Ok(file));
+    let file = limits_shifted_file(0, [36, 119, 36]);
+    assert_eq!(written(0), Ok(file));
+}
+
+#[test]
 fn no_notes_and_one_bell_are_a_file() {
     let phrase = phrase(1, &[bell([12, 0, 1, 1, 0])], &[]);
     assert_eq!(write(&phrase, 15), Ok(m8()));
@@ -147,10 +187,102 @@ fn refusals_have_the_places_of_document_01() {
 }
 
 #[test]
+fn refusals_have_the_places_of_version_2() {
+    let p_refused = |change: fn(&mut EditedPhrase)| {
+        let mut phrase = shifted(p(), -3);
+        change(&mut phrase);
+        refused(&phrase, ENOUGH)
+    };
+    assert_eq!(p_refused(|p| p.version = 3), Some((1, 0)));
+    assert_eq!(p_refused(|p| p.drivers = 0), Some((4, 5)));
+    assert_eq!(p_refused(|p| p.version = 1), Some((19, 6)));
+    assert_eq!(p_refused(|p| p.shift = 25), Some((19, 6)));
+    assert_eq!(p_refused(|p| p.bell_count = 0), Some((5, 7)));
+    assert_eq!(p_refused(|p| p.bells[0].written = 11), Some((6, 8)));
+    assert_eq!(p_refused(|p| p.bells[1].transposition = 254), Some((7, 15)));
+    assert_eq!(p_refused(|p| p.note_count = 65), Some((8, 22)));
+    assert_eq!(p_refused(|p| p.notes[0].wait_count = 5), Some((9, 23)));
+    // Bell 1 sounds for 74: the key without the shift.
+    assert_eq!(p_refused(|p| p.notes[1].key = 74), Some((10, 37)));
+    assert_eq!(p_refused(|p| p.notes[0].ra = 6), Some((11, 23)));
+    let waits_for_itself = |p: &mut EditedPhrase| p.notes[1] = note([77, 0, 0, 6], &[1]);
+    assert_eq!(p_refused(waits_for_itself), Some((12, 37)));
+}
+
+#[test]
+fn the_shift_has_its_limits() {
+    let with = |version, shift| {
+        answer(|p| {
+            (p.version, p.shift) = (version, shift);
+            p.note_count = 0;
+        })
+    };
+    let nineteen = Some((19, 6));
+    for shift in 0..=255 {
+        // As a signed byte, 232 is -24.
+        let in_range = matches!(shift, 0..=24 | 232..=255);
+        let expected = if in_range { None } else { nineteen };
+        assert_eq!(with(2, shift), expected, "{shift}");
+        let expected = if shift == 0 { None } else { nineteen };
+        assert_eq!(with(1, shift), expected, "{shift} in version 1");
+    }
+    // Too wide, though the low byte is right, or the number of 32 bits.
+    for shift in [
+        256,
+        256 + 24,
+        65_536,
+        1 << 24,
+        1 << 31,
+        0xFFFF_FF00,
+        0xFFFF_FFE8,
+        u32::MAX,
+    ] {
+        assert_eq!(with(2, shift), nineteen, "{shift}");
+        assert_eq!(with(1, shift), nineteen, "{shift} in version 1");
+        assert_eq!(with(3, shift), Some((1, 0)), "{shift} in version 3");
+    }
+}
+
+#[test]
+fn a_key_and_a_shift_find_the_bell_of_their_sum() {
+    // Bells sound for 12 and 119, the lowest and the highest that there may be.
+    let bells = [bell([12, 0, 1, 1, 0]), bell([95, 24, 1, 1, 0])];
+    let with = |key, shift: i8| {
+        let mut phrase = phrase(1, &bells, &[note([key, 0, 0, 0], &[])]);
+        (phrase.version, phrase.shift) = (2, u32::from(shift as u8));
+        refused(&phrase, ENOUGH)
+    };
+    let ten = Some((10, 8 + 14 + 1));
+    for shift in -24..=24 {
+        for key in 0..=300 {
+            let sum = i64::from(key) + i64::from(shift);
+            let expected = if sum == 12 || sum == 119 { None } else { ten };
+            assert_eq!(with(key, shift), expected, "{key} {shift}");
+        }
+        for sounding in [12, 119] {
+            let key = sounding - i32::from(shift);
+            // Only the low byte of the key is right, or the sum's, or its 32 bits.
+            for wide in [256, 65_536, 1 << 24, i32::MIN] {
+                let key = key.wrapping_add(wide) as u32;
+                assert_eq!(with(key, shift), ten, "{key} {shift}");
+            }
+            if key < 0 {
+                assert_eq!(with(key as u32, shift), ten, "{key} {shift}");
+                assert_eq!(with(key as u32 & 0xFF, shift), ten, "{key} {shift}");
+            }
+        }
+        for key in [u32::MAX, u32::MAX - 11, u32::MAX - 19] {
+            assert_eq!(with(key, shift), ten, "{key} {shift}");
+        }
+    }
+}
+
+#[test]
 fn heads_have_their_limits() {
-    for version in [0, 2, 255, 256, 257, 65_537, 1 << 24, u32::MAX] {
+    for version in [0, 3, 255, 256, 257, 258, 65_537, 65_538, 1 << 24, u32::MAX] {
         assert_eq!(answer(|p| p.version = version), Some((1, 0)), "{version}");
     }
+    assert_eq!(answer(|p| p.version = 2), None);
     for drivers in 1..=8 {
         assert_eq!(answer(|p| p.drivers = drivers), None);
     }
@@ -283,6 +415,7 @@ fn note_fields_have_their_limits() {
 fn the_first_rule_in_order_answers() {
     let version = |p: &mut EditedPhrase| p.version = 257;
     let drivers = |p: &mut EditedPhrase| p.drivers = u32::MAX;
+    let shift = |p: &mut EditedPhrase| p.shift = 25;
     let bell_count = |p: &mut EditedPhrase| p.bell_count = u32::MAX;
     let bell_0 = |p: &mut EditedPhrase| p.bells[0].rank = 256;
     // Bell 0 sounds for 36.
@@ -296,9 +429,10 @@ fn the_first_rule_in_order_answers() {
     let listed_1 = |p: &mut EditedPhrase| p.notes[1].waits[0] = 256;
     let key_2 = |p: &mut EditedPhrase| p.notes[2].key = 0;
     type Change = fn(&mut EditedPhrase);
-    let in_order: [(Change, u64, u64); 13] = [
+    let in_order: [(Change, u64, u64); 14] = [
         (version, 1, 0),
         (drivers, 4, 5),
+        (shift, 19, 6),
         (bell_count, 5, 6),
         (bell_0, 6, 7),
         (doubled, 7, 14),
@@ -319,12 +453,26 @@ fn the_first_rule_in_order_answers() {
             }
         });
         assert_eq!(found, Some((*number, *place)));
+
+        let found = answer(|p| {
+            p.version = 2;
+            for (change, ..) in in_order[first..].iter().rev() {
+                change(p);
+            }
+        });
+        // One byte further on after the shift.
+        let place = place + u64::from(first > 2);
+        assert_eq!(found, Some((*number, place)), "version 2");
     }
 }
 
 #[test]
 fn an_exact_fit_is_enough_and_one_byte_less_is_16() {
-    for (phrase, file) in [(p(), &P[..]), (limits(), &LIMITS_FILE)] {
+    for (phrase, file) in [
+        (p(), &P[..]),
+        (limits(), &LIMITS_FILE),
+        (shifted(p(), -3), &P_SHIFTED),
+    ] {
         for room in 0..file.len() {
             assert_eq!(refused(&phrase, room), Some((16, 0)), "{room}");
         }
@@ -378,6 +526,21 @@ fn the_longest_file_has_1822_bytes() {
     }
     assert_eq!(refused(&phrase, ENOUGH), Some((12, 7 + 672 + 1)));
     assert_eq!(Draft::of(&phrase).unwrap().bytes().len(), 1_832);
+    // One byte more with a shift.
+    phrase = shifted(phrase, -24);
+    assert_eq!(refused(&phrase, ENOUGH), Some((12, 8 + 672 + 1)));
+    assert_eq!(Draft::of(&phrase).unwrap().bytes().len(), 1_833);
+}
+
+#[test]
+fn the_longest_file_of_version_2_has_1823_bytes() {
+    let draft = longest(&mut Generator::new(SEED)).shifted(-24).unwrap();
+    let mut phrase = EditedPhrase::from(&draft);
+    assert_eq!(write(&phrase, 1_823), Ok(draft.bytes()));
+    assert_eq!(draft.bytes().len(), 1_823);
+    assert_eq!(refused(&phrase, 1_822), Some((16, 0)));
+    phrase.notes[63].waits[3] += 256;
+    assert_eq!(refused(&phrase, ENOUGH), Some((12, 1_823 - 18)));
 }
 
 #[test]
@@ -440,14 +603,18 @@ fn each_field_of_a_bell_is_often_too_wide() {
     assert!(by_field.iter().all(|&count| count * 200 >= CASES));
 }
 
-/// Holds the draw to what it has to cover, and the writer to the reader.
-#[test]
-fn random_phrases_are_refused_as_their_files_or_read_back() {
-    let (mut answers, mut fitting, mut only_too_wide) =
-        (Tally::default(), Tally::default(), Tally::default());
-    let mut longest = 0;
-    for number in 0..CASES {
-        let case = edited_case(SEED, number);
+/// What the writer and the reader made of random phrases.
+#[derive(Default)]
+struct Seen {
+    answers: Tally,
+    fitting: Tally,
+    only_too_wide: Tally,
+    longest: u64,
+}
+
+impl Seen {
+    /// A phrase is refused as its file, or read back. The longest file has so many bytes.
+    fn hold_to_the_reader(&mut self, number: u64, case: &EditedCase, longest: usize) {
         let draft = Draft::of(&case.phrase).map(|draft| draft.bytes());
         let written = write(&case.phrase, ENOUGH);
         match &written {
@@ -455,40 +622,81 @@ fn random_phrases_are_refused_as_their_files_or_read_back() {
                 assert!(draft.as_ref() == Some(file), "case {number}");
                 let phrase = read(file).expect("what is written can be read");
                 assert!(EditedPhrase::from(&phrase) == case.phrase, "case {number}");
-                longest += u64::from(file.len() == 1_822);
+                self.longest += u64::from(file.len() == longest);
             }
             Err(refusal) => {
                 let answer = refusal.host_number();
                 match draft {
                     Some(file) => {
                         assert_eq!(read(&file).unwrap_err(), *refusal, "case {number}");
-                        fitting.add(answer);
+                        self.fitting.add(answer);
                     }
                     None if read(&Draft::cut(&case.phrase).bytes()).is_ok() => {
-                        only_too_wide.add(answer);
+                        self.only_too_wide.add(answer);
                     }
                     None => {}
                 }
             }
         }
         let answer = write(&case.phrase, case.room);
-        answers.add(answer.map_or_else(Refusal::host_number, |_| 0));
+        (self.answers).add(answer.map_or_else(Refusal::host_number, |_| 0));
     }
-    answers.print("phrases, by their answer in buffers of many lengths");
-    fitting.print("refused as their files are");
-    only_too_wide.print("refused, and sound if fields were cut to their bytes");
-    println!("{longest} of the longest files");
-    for number in [0, 1, 4, 5, 6, 7, 8, 9, 10, 11, 12, 16] {
-        assert!(answers.counts[number] * 200 >= CASES, "{number} is rare");
+
+    /// Holds the draw to what it has to cover; these numbers are met beside those of every version.
+    fn demand_all(&self, cases: u64, beside: &[usize]) {
+        (self.answers).print("phrases, by their answer in buffers of many lengths");
+        self.fitting.print("refused as their files are");
+        (self.only_too_wide).print("refused, and sound if fields were cut to their bytes");
+        println!("{} of the longest files", self.longest);
+        for (what, tally, numbers, of) in [
+            (
+                "answers",
+                &self.answers,
+                &[0, 1, 4, 5, 6, 7, 8, 9, 10, 11, 12, 16][..],
+                200,
+            ),
+            (
+                "fitting",
+                &self.fitting,
+                &[1, 4, 5, 6, 7, 8, 9, 10, 11, 12],
+                400,
+            ),
+            (
+                "too wide",
+                &self.only_too_wide,
+                &[1, 4, 5, 6, 8, 9, 10, 12],
+                1_000,
+            ),
+        ] {
+            for &number in numbers.iter().chain(beside) {
+                let often = tally.counts[number] * of >= cases;
+                assert!(often, "{what}: {number} is rare");
+            }
+        }
+        assert!(self.longest * 100 >= cases);
     }
-    for number in [1, 4, 5, 6, 7, 8, 9, 10, 11, 12] {
-        assert!(fitting.counts[number] * 400 >= CASES, "{number} is rare");
+}
+
+#[test]
+fn random_phrases_are_refused_as_their_files_or_read_back() {
+    let mut seen = Seen::default();
+    for number in 0..CASES {
+        seen.hold_to_the_reader(number, &edited_case(SEED, number), 1_822);
     }
-    for number in [1, 4, 5, 6, 8, 9, 10, 12] {
-        assert!(
-            only_too_wide.counts[number] * 1_000 >= CASES,
-            "{number} is rare"
-        );
+    seen.demand_all(CASES, &[]);
+}
+
+#[test]
+fn random_phrases_of_version_2_are_refused_as_their_files_or_read_back() {
+    let cases = CASES / CASES_PER_SHIFTED;
+    let (mut seen, mut kinds) = (Seen::default(), ShiftedWriting::new());
+    for number in 0..cases {
+        let case = shifted_edited_case(SEED, number);
+        seen.hold_to_the_reader(number, &case, 1_823);
+        kinds.add(&case.phrase);
     }
-    assert!(longest * 100 >= CASES);
+    kinds.print();
+    // Where the shift is often broken, other fields are less often the first.
+    seen.demand_all(cases / 2, &[19]);
+    kinds.demand_all(cases).unwrap();
 }

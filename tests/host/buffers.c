@@ -1,7 +1,8 @@
 /*
  * Calls the seven calls of host/phrase.h on files good and bad, with tables, texts and files of odd sizes and at odd places, and holds answers, texts and all
- * that has to stay to what document 01 and requests 101 and 102 say. phrase_play gets an empty playing here; playings.c has the others. Every expected value
- * is written here by hand. areas.h says how memory is lent.
+ * that has to stay to what document 01 and requests 101, 102 and 104 say. phrase_play gets an empty playing here; playings.c has the others. Every expected
+ * value is written here by hand; of a phrase that is accepted, late or too large, and of the same in version 2 with a shift, it is one. areas.h says how memory
+ * is lent.
  *
  * Prints one line for each failure (the first twenty) and a count; exit status 0 when nothing failed.
  */
@@ -29,7 +30,8 @@ struct outcome {
 /* Names the trial; then what else is lent. */
 static void describe(const char *call, const struct file *file, struct setting setting)
 {
-    snprintf(trial, sizeof trial, "%s, %s, %s, filling %02X", call, file->name, where_names[setting.where], (unsigned)setting.filling);
+    snprintf(trial, sizeof trial, "%s, %s, version %u, %s, filling %02X", call, file->name, version_of(file), where_names[setting.where],
+             (unsigned)setting.filling);
 }
 
 static void describe_room(size_t size, const char *what)
@@ -111,10 +113,10 @@ static void try_report(const struct file *file, const struct outcome *outcome, s
     expect_text(phrase_report(file_area.lent, file->size, text_area.lent, text_size), outcome);
 }
 
-/* Reading takes no table: only refusals 1 to 12 concern it. */
+/* Reading takes no table: only refusals 1 to 12 and 19 concern it. */
 static int is_unread(const struct outcome *outcome)
 {
-    return outcome->number >= 1 && outcome->number <= 12;
+    return (outcome->number >= 1 && outcome->number <= 12) || outcome->number == 19;
 }
 
 static size_t zeros_in(const struct area *area)
@@ -167,13 +169,13 @@ static void try_write(const struct file *file, const struct phrase *phrase, size
 {
     uint64_t answer;
     int fits = size >= file->size;
-    size_t due = phrase->version == 1 && fits ? file->size : 0;
+    size_t due = phrase->version != 0 && fits ? file->size : 0;
     describe("phrase_write", file, setting);
     describe_room(size, "bytes of room");
     lend_const(&phrase_area, phrase, sizeof *phrase, setting, sizeof(uint32_t));
     lend(&written_area, size, setting, 3);
     answer = phrase_write((const struct phrase *)(const void *)phrase_area.lent, written_area.lent, size);
-    expect_answer(answer, phrase->version != 1 ? 1 : fits ? 0 : 16, due);
+    expect_answer(answer, phrase->version == 0 ? 1 : fits ? 0 : 16, due);
     if (due != 0)
         expect(memcmp(written_area.lent, file->bytes, due) == 0, "the file is another");
     expect_untouched_from(&written_area, due, "a byte before the file changed", "a byte past the file changed");
@@ -254,6 +256,52 @@ static const struct {
     {"row 10", P, 37, 0x3E, 10, 36, "refused 10 at 36\n"},
     {"row 11", P, 27, 0x06, 11, 22, "refused 11 at 22\n"},
     {"row 12", P_WAITING, UNCHANGED, 12, 36, "refused 12 at 36\n"},
+
+    /* Version 2: the shift at 6, between refusals 4 and 5, and all that follows one byte later. */
+    {"version 0", P, 0, 0x00, 1, 0, "refused 1 at 0\n"},
+    {"version 3", P, 0, 0x03, 1, 0, "refused 1 at 0\n"},
+    {"version 3", P_SHIFTED, 0, 0x03, 1, 0, "refused 1 at 0\n"},
+    {"version 130", P_SHIFTED, 0, 0x82, 1, 0, "refused 1 at 0\n"},
+    {"version 2, one byte", "02", UNCHANGED_2, 2, 0, "refused 2 at 0\n"},
+    {"version 2, four bytes", "02 000000", UNCHANGED_2, 2, 0, "refused 2 at 0\n"},
+    {"P shifted, count one less", P_SHIFTED, 4, 0x2D, 2, 0, "refused 2 at 0\n"},
+    {"P as version 2", P, 0, 0x02, 6, 8, "refused 6 at 8\n"}, /* a shift of 2, and 60 bells, the first of key 0 */
+    {"P shifted as version 1", P_SHIFTED, 0, 0x01, 5, 6, "refused 5 at 6\n"},
+    {"version 2, no m", "02 00000000", UNCHANGED_2, 3, 5, "refused 3 at 5\n"},
+    {"version 2, row 4", "02 00000001 00", UNCHANGED_2, 4, 5, "refused 4 at 5\n"},
+    {"version 2, row 4, shift 25", "02 00000002 09 19", UNCHANGED_2, 4, 5, "refused 4 at 5\n"},
+    {"no shift", "02 00000001 01", UNCHANGED_2, 3, 6, "refused 3 at 6\n"},
+    {"shift 25, no bell count", "02 00000002 01 19", UNCHANGED_2, 19, 6, "refused 19 at 6\n"},
+    {"shift 25, no bells", "02 00000003 01 19 00", UNCHANGED_2, 19, 6, "refused 19 at 6\n"},
+    {"P shifted by 25", P_SHIFTED, 6, 0x19, 19, 6, "refused 19 at 6\n"},
+    {"P shifted by -25", P_SHIFTED, 6, 0xE7, 19, 6, "refused 19 at 6\n"},
+    {"P shifted by 127", P_SHIFTED, 6, 0x7F, 19, 6, "refused 19 at 6\n"},
+    {"P shifted by -128", P_SHIFTED, 6, 0x80, 19, 6, "refused 19 at 6\n"},
+    {"no bell count", "02 00000002 01 00", UNCHANGED_2, 3, 7, "refused 3 at 7\n"},
+    {"version 2, row 5", "02 00000003 01 18 00", UNCHANGED_2, 5, 7, "refused 5 at 7\n"},
+    {"version 2, 97 bells", "02 00000003 01 E8 61", UNCHANGED_2, 5, 7, "refused 5 at 7\n"},
+    {"version 2, cut bell", "02 00000009 01 FC 01 3C0000020002", UNCHANGED_2, 3, 8, "refused 3 at 8\n"},
+    {"version 2, row 6", P_SHIFTED, 8, 0x0B, 6, 8, "refused 6 at 8\n"},
+    {"version 2, row 7", P_SHIFTED, 16, 0xFE, 7, 15, "refused 7 at 15\n"},
+    {"version 2, row 8", P_SHIFTED, 22, 0x41, 8, 22, "refused 8 at 22\n"},
+    {"version 2, row 9", P_SHIFTED, 23, 0x0C, 9, 23, "refused 9 at 23\n"},
+    {"P shifted, note 1 longer than the file", P_SHIFTED, 37, 0x0E, 3, 37, "refused 3 at 37\n"},
+    {"P shifted, bytes remain", P_SHIFTED, 22, 0x01, 3, 37, "refused 3 at 37\n"},
+    {"P shifted, a note is missing", P_SHIFTED, 22, 0x03, 3, 51, "refused 3 at 51\n"},
+    {"version 2, row 10: P's key", P_SHIFTED, 38, 0x4A, 10, 37, "refused 10 at 37\n"},
+    {"version 2, row 10: a bell's written key", P_SHIFTED, 38, 0x42, 10, 37, "refused 10 at 37\n"},
+    {"P shifted by -3", P_SHIFTED, 6, 0xFD, 10, 23, "refused 10 at 23\n"},
+    {"P shifted by 0", P_SHIFTED, 6, 0x00, 10, 23, "refused 10 at 23\n"},
+    {"version 2, row 11", P_SHIFTED, 28, 0x06, 11, 23, "refused 11 at 23\n"},
+    {"version 2, row 12", P_SHIFTED_WAITING, UNCHANGED_2, 12, 37, "refused 12 at 37\n"},
+    /* Past the keys of bells; and a sum over 255, which is no small one. */
+    {"key 119 shifted by 1", ONE_STROKE("01", "77", "77"), UNCHANGED_2, 10, 16, "refused 10 at 16\n"},
+    {"key 12 shifted by -1", ONE_STROKE("FF", "0C", "0C"), UNCHANGED_2, 10, 16, "refused 10 at 16\n"},
+    {"key 144 shifted by -24", ONE_STROKE("E8", "77", "90"), UNCHANGED_2, 10, 16, "refused 10 at 16\n"},
+    {"key 0 shifted by 11", ONE_STROKE("0B", "0C", "00"), UNCHANGED_2, 10, 16, "refused 10 at 16\n"},
+    {"key 0 shifted by -24", ONE_STROKE("E8", "77", "00"), UNCHANGED_2, 10, 16, "refused 10 at 16\n"},
+    {"key 250 shifted by 24", ONE_STROKE("18", "12", "FA"), UNCHANGED_2, 10, 16, "refused 10 at 16\n"},
+    {"key 255 shifted by -24", ONE_STROKE("E8", "77", "FF"), UNCHANGED_2, 10, 16, "refused 10 at 16\n"},
 };
 
 #define M1_TEXT                                                    \
@@ -274,6 +322,7 @@ static const struct {
     "stroke 0 key C4 bell 0 ends 1..1 response 1..1 due 3600000\n" \
     "stroke 1 key D4 bell 1 ends 2..2 response 2..2 due 3600000\n" \
     "accepted strokes 2 states 3 hold 2\n"
+#define ONE_TEXT(key) "stroke 0 key " key " bell 0 ends 1..1 response 1..1 due 3600000\naccepted strokes 1 states 2 hold 1\n"
 #define M8_TEXT "accepted strokes 0 states 1 hold 0\n"
 
 /* Files that are read. P, M1 and M7: W = 8; M5 and M6: W = 12; M8: W = 4, on 8 drivers 18. */
@@ -319,6 +368,27 @@ static const struct {
     {"M8 on 8 drivers", M8_ON_8, UNCHANGED, {37, 36, 0, 0, M8_TEXT}},
 };
 
+/* Files of version 2 that are read. One stroke: W = 6. The text has the key that sounds, also where the one that is written is no bell's. */
+static const struct {
+    const char *name, *hex;
+    struct outcome outcome;
+} shifts[] = {
+    {"P shifted", P_SHIFTED, {15, 0, 13, 0, FULL_AT("0")}},
+    {"P shifted", P_SHIFTED, {31, 16, 13, 1, FULL_AT("1")}},
+    {"P shifted", P_SHIFTED, {33, 32, 0, 0, P_TEXT}},
+    {"P shifted", P_SHIFTED, {16384, 16384, 0, 0, P_TEXT}},
+    {"key 60 shifted by 0", ONE_STROKE("00", "3C", "3C"), {16384, 16380, 0, 0, ONE_TEXT("C4")}},
+    {"key 60 shifted by -4", ONE_STROKE("FC", "38", "3C"), {16384, 16380, 0, 0, ONE_TEXT("G#3")}},
+    {"key 60 shifted by 24", ONE_STROKE("18", "54", "3C"), {16384, 16380, 0, 0, ONE_TEXT("C6")}},
+    {"key 143 shifted by -24", ONE_STROKE("E8", "77", "8F"), {16384, 16380, 0, 0, ONE_TEXT("B8")}},
+    {"key 120 shifted by -1", ONE_STROKE("FF", "77", "78"), {16384, 16380, 0, 0, ONE_TEXT("B8")}},
+    {"key 36 shifted by -24", ONE_STROKE("E8", "0C", "24"), {16384, 16380, 0, 0, ONE_TEXT("C0")}},
+    {"key 0 shifted by 24", ONE_STROKE("18", "18", "00"), {16384, 16380, 0, 0, ONE_TEXT("C1")}},
+    {"key 0 shifted by 12", ONE_STROKE("0C", "0C", "00"), {16384, 16380, 0, 0, ONE_TEXT("C0")}},
+    {"key 11 shifted by 1", ONE_STROKE("01", "0C", "0B"), {16384, 16380, 0, 0, ONE_TEXT("C0")}},
+    {"key 95 shifted by 24", ONE_STROKE("18", "77", "5F"), {16384, 16380, 0, 0, ONE_TEXT("B8")}},
+};
+
 static void try_refusals(void)
 {
     static const size_t tables[] = {0, 1, 31, 32, 33, 16384};
@@ -342,13 +412,25 @@ static void try_refusals(void)
     }
 }
 
+/* In version 1, and in version 2 with a shift, mostly another each time. */
 static void try_walks(void)
 {
     size_t i;
     for (i = 0; i < sizeof walks / sizeof *walks; i++) {
-        struct file file = from_hex(walks[i].name, walks[i].hex);
+        struct file file = from_hex(walks[i].name, walks[i].hex), moved;
         file.bytes[walks[i].at] = walks[i].byte;
+        moved = shifted(&file, 24 - (int)i * 5 % 49);
         try_outcome(&file, &walks[i].outcome);
+        try_outcome(&moved, &walks[i].outcome);
+    }
+}
+
+static void try_shifts(void)
+{
+    size_t i;
+    for (i = 0; i < sizeof shifts / sizeof *shifts; i++) {
+        struct file file = from_hex(shifts[i].name, shifts[i].hex);
+        try_outcome(&file, &shifts[i].outcome);
     }
 }
 
@@ -400,6 +482,9 @@ static void try_longest_text(void)
     try_outcome(&file, &full);
     try_outcome(&file, &exact);
     try_outcome(&file, &own);
+    file = shifted(&file, -3);
+    try_outcome(&file, &exact);
+    try_outcome(&file, &own);
 }
 
 static void try_larger_files(void)
@@ -427,6 +512,7 @@ int main(void)
     ends_area = map_area(PHRASE_MOST_NOTES * sizeof(uint32_t));
     try_refusals();
     try_walks();
+    try_shifts();
     try_larger_files();
     return end_test();
 }

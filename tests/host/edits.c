@@ -43,6 +43,37 @@ static const struct phrase phrase_q = {
     "11 4A 0036EE80 0036EE80 00000003 00 01 02 03 0F 2F 00000004 00000005 00000006 01 04"
 enum { Q_SIZE = 125 };
 
+/*
+ * Version 2: shifted down by four semitones. Bells at 8, 15 and 22, their end at 29, notes at 30, 44, 58 and 73. Notes 0 and 3, written as bell 1 is, strike
+ * bell 0; note 2 is written above every key of a bell.
+ */
+static const struct phrase phrase_r = {
+    2, 2, 3, 4, 252,
+    {{64, 0, 2, 3, 7, 0, 64}, {68, 2, 4, 5, 8, 0, 70}, {119, 0, 6, 7, 9, 0, 119}},
+    {{68, 0, 1, 20, 0, {0, 0, 0, 0}, 0},
+     {74, 2, 3, 30, 0, {0, 0, 0, 0}, 1},
+     {123, 4, 5, 40, 1, {1, 0, 0, 0}, 2},
+     {68, 6, 7, 50, 2, {0, 2, 0, 0}, 0}},
+};
+#define R                                                                                                              \
+    "02 00000054 02 FC 03 4000 0002 0003 07 4402 0004 0005 08 7700 0006 0007 09 04 0D 44 00000000 00000001 00000014"    \
+    "0D 4A 00000002 00000003 0000001E 0E 7B 00000004 00000005 00000028 01 0F 44 00000006 00000007 00000032 00 02"
+enum { R_SIZE = 89 };
+
+/* The least and the largest shift, with the keys furthest from those of bells: 0 and 95, and 36 and 143. */
+static const struct phrase phrase_up = {
+    2, 8, 2, 2, 24,
+    {{24, 0, 1, 1, 0, 0, 24}, {119, 0, 1, 1, 0, 0, 119}},
+    {{0, 0, 0, 0, 0, {0, 0, 0, 0}, 0}, {95, 0, 0, 0, 0, {0, 0, 0, 0}, 1}},
+};
+#define UP "02 0000002E 08 18 02 1800 0001 0001 00 7700 0001 0001 00 02 0D 00 00000000 00000000 00000000 0D 5F 00000000 00000000 00000000"
+static const struct phrase phrase_down = {
+    2, 1, 2, 2, 232,
+    {{12, 0, 1, 1, 0, 0, 12}, {119, 0, 1, 1, 0, 0, 119}},
+    {{143, 0, 0, 0, 0, {0, 0, 0, 0}, 1}, {36, 0, 0, 0, 0, {0, 0, 0, 0}, 0}},
+};
+#define DOWN "02 0000002E 01 E8 02 0C00 0001 0001 00 7700 0001 0001 00 02 0D 8F 00000000 00000000 00000000 0D 24 00000000 00000000 00000000"
+
 /* The least and the largest values: keys 12 and 119, written and sounding, transpositions -24 and 24, no notes. */
 static const struct phrase phrase_bounds = {
     1, 8, 4, 0, 0,
@@ -80,6 +111,10 @@ static struct file encoded(const struct phrase *phrase)
     struct file file = begin("an encoded phrase", phrase->drivers, phrase->bell_count);
     uint32_t i, wait;
     file.bytes[0] = (uint8_t)phrase->version;
+    if (phrase->version == 2) {
+        file.bytes[6] = (uint8_t)phrase->shift;
+        add_byte(&file, phrase->bell_count);
+    }
     for (i = 0; i < phrase->bell_count && i < PHRASE_MOST_BELLS; i++) {
         const struct phrase_bell *bell = &phrase->bells[i];
         add_bell(&file, bell->key, bell->least_hold, bell->most_hold, bell->rank);
@@ -97,10 +132,16 @@ static struct file encoded(const struct phrase *phrase)
     return file;
 }
 
+/* The signed number of a byte. */
+static int signed_byte(uint32_t byte)
+{
+    return byte < 128 ? (int)byte : (int)byte - 256;
+}
+
 static uint32_t bell_of(const struct phrase *phrase, uint32_t key)
 {
     uint32_t bell = 0;
-    while (bell < phrase->bell_count && phrase->bells[bell].sounding != key)
+    while (bell < phrase->bell_count && (int)phrase->bells[bell].sounding != (int)key + signed_byte(phrase->shift))
         bell++;
     return bell;
 }
@@ -115,10 +156,11 @@ static struct phrase as_read(const struct phrase *phrase)
     read.drivers = phrase->drivers;
     read.bell_count = phrase->bell_count;
     read.note_count = phrase->note_count;
+    read.shift = phrase->shift;
     for (i = 0; i < phrase->bell_count; i++) {
         read.bells[i] = phrase->bells[i];
         read.bells[i].spare = 0;
-        read.bells[i].sounding = phrase->bells[i].key + phrase->bells[i].transposition - (phrase->bells[i].transposition < 128 ? 0 : 256);
+        read.bells[i].sounding = (uint32_t)((int)phrase->bells[i].key + signed_byte(phrase->bells[i].transposition));
     }
     for (i = 0; i < phrase->note_count; i++) {
         read.notes[i] = phrase->notes[i];
@@ -224,7 +266,62 @@ static void try_phrases(void)
     expect_number(most.size, 1822, "its length");
 }
 
-/* ---- Fields changed in Q ---- */
+/* P and Q in version 2 without a shift, those above, and the longest file, whose notes are written 24 semitones higher than they strike. */
+static void try_shifted_phrases(void)
+{
+    struct file p = from_hex("P", P), q = from_hex("Q", Q), r = from_hex("R", R), up = from_hex("up", UP), down = from_hex("down", DOWN), most = longest();
+    struct phrase version_2 = phrase_p;
+    uint32_t i;
+    version_2.version = 2;
+    p = shifted(&p, 0);
+    p.name = "P, version 2";
+    try_both(&p, &version_2);
+    version_2 = phrase_q;
+    version_2.version = 2;
+    q = shifted(&q, 0);
+    q.name = "Q, version 2";
+    try_both(&q, &version_2);
+    try_both(&r, &phrase_r);
+    try_both(&up, &phrase_up);
+    try_both(&down, &phrase_down);
+    version_2 = longest_phrase();
+    version_2.version = 2;
+    version_2.shift = 232;
+    for (i = 0; i < 64; i++)
+        version_2.notes[i].key += 24;
+    most = shifted(&most, -24);
+    most.name = "a longest file of version 2";
+    try_both(&most, &version_2);
+    snprintf(trial, sizeof trial, "the longest file of version 2");
+    expect_number(most.size, 1823, "its length");
+}
+
+/* Each shift that there is, and the next ones: P's bells are struck by keys that are as much lower. */
+static void try_all_shifts(void)
+{
+    struct file p = from_hex("P", P);
+    int semitones;
+    for (semitones = -25; semitones <= 25; semitones++) {
+        struct file file = shifted(&p, semitones);
+        struct phrase phrase = phrase_p;
+        struct result due = {0, file.size, &file}, wrong = {19, 6, NULL};
+        phrase.version = 2;
+        phrase.shift = phrase_transposition(semitones);
+        phrase.notes[0].key = (uint32_t)(60 - semitones);
+        phrase.notes[1].key = (uint32_t)(74 - semitones);
+        if (semitones < -24 || semitones > 24) {
+            try_write("P shifted too far", &phrase, setting_number(0), 1, MOST_ROOM, wrong);
+            continue;
+        }
+        try_read(&file, setting_number(0), 1, &phrase);
+        try_write("P shifted", &phrase, setting_number(1), 1, file.size, due);
+        phrase.version = 1;
+        if (semitones != 0)
+            try_write("P shifted, as version 1", &phrase, setting_number(1), 1, MOST_ROOM, wrong);
+    }
+}
+
+/* ---- Fields changed in Q, and in R ---- */
 
 struct word {
     const char *name;
@@ -242,7 +339,8 @@ static const struct change {
     uint64_t number, place;
 } changes[] = {
     {{TO(version, 0)}, 1, 0},
-    {{TO(version, 2)}, 1, 0},
+    {{TO(version, 2)}, 0, Q_SIZE + 1},
+    {{TO(version, 3)}, 1, 0},
     {{TO(version, 257)}, 1, 0},
     {{TO(version, HIGH + 1)}, 1, 0},
     {{TO(drivers, 0)}, 4, 5},
@@ -251,6 +349,12 @@ static const struct change {
     {{TO(drivers, ALL)}, 4, 5},
     {{TO(drivers, 1)}, 0, Q_SIZE},
     {{TO(drivers, 8)}, 0, Q_SIZE},
+    {{TO(shift, 1)}, 19, 6}, /* version 1 has none */
+    {{TO(shift, 24)}, 19, 6},
+    {{TO(shift, 255)}, 19, 6},
+    {{TO(shift, 256)}, 19, 6},
+    {{TO(shift, HIGH)}, 19, 6},
+    {{TO(shift, ALL)}, 19, 6},
     {{TO(bell_count, 0)}, 5, 6},
     {{TO(bell_count, 97)}, 5, 6},
     {{TO(bell_count, 256 + 3)}, 5, 6},
@@ -352,8 +456,13 @@ static const struct change {
     {{TO(notes[5].waits[1], 3)}, 0, Q_SIZE},
 
     /* Two that are wrong: the file's order, and within a record 6, 7, and 9, 10, 11, 12. */
-    {{TO(version, 2), TO(drivers, 9), TO(bell_count, 0)}, 1, 0},
+    {{TO(version, 3), TO(drivers, 9), TO(bell_count, 0)}, 1, 0},
+    {{TO(version, 3), TO(shift, 1)}, 1, 0},
     {{TO(drivers, 9), TO(bell_count, 0)}, 4, 5},
+    {{TO(drivers, 9), TO(shift, 1)}, 4, 5},
+    {{TO(shift, 1), TO(bell_count, 0)}, 19, 6},
+    {{TO(shift, ALL), TO(bell_count, ALL)}, 19, 6},
+    {{TO(shift, 1), TO(notes[0].key, 0)}, 19, 6},
     {{TO(bell_count, 97), TO(bells[0].key, 0)}, 5, 6},
     {{TO(bells[0].rank, 256), TO(bells[1].key, 0)}, 6, 7},
     {{TO(bells[1].transposition, 254), TO(bells[2].key, 0)}, 7, 14},
@@ -376,18 +485,97 @@ static const struct change {
     {{TO(notes[1].wait_count, 0), TO(notes[5].due, ALL)}, 11, 108},
 };
 
+/* R with these words changed. */
+static const struct change changes_of_r[] = {
+    {{TO(version, 0)}, 1, 0},
+    {{TO(version, 1)}, 19, 6},
+    {{TO(version, 3)}, 1, 0},
+    {{TO(version, 256 + 2)}, 1, 0},
+    {{TO(version, HIGH + 2)}, 1, 0},
+    {{TO(version, 1), TO(shift, 0)}, 10, 29}, /* no bell sounds for 68 */
+    {{TO(drivers, 0)}, 4, 5},
+    {{TO(drivers, 9)}, 4, 5},
+    {{TO(shift, 24)}, 10, 30},
+    {{TO(shift, 25)}, 19, 6},
+    {{TO(shift, 232)}, 10, 30}, /* -24 */
+    {{TO(shift, 231)}, 19, 6},
+    {{TO(shift, 127)}, 19, 6},
+    {{TO(shift, 128)}, 19, 6},
+    {{TO(shift, 256)}, 19, 6},
+    {{TO(shift, 256 + 252)}, 19, 6},
+    {{TO(shift, ALL)}, 19, 6},
+    {{TO(shift, ALL - 3)}, 19, 6}, /* -4 as an int has it */
+    {{TO(shift, HIGH)}, 19, 6},
+    {{TO(shift, 251)}, 10, 30},
+    {{TO(shift, 0)}, 10, 30},
+    {{TO(bell_count, 0)}, 5, 7},
+    {{TO(bell_count, 97)}, 5, 7},
+    {{TO(bell_count, 256 + 3)}, 5, 7},
+    {{TO(bell_count, ALL)}, 5, 7},
+    {{TO(bell_count, 4)}, 6, 29},
+    {{TO(bell_count, 2)}, 10, 8 + 14 + 1 + 14 + 14}, /* note 2 strikes the third */
+    {{TO(bell_count, 2), TO(note_count, 2)}, 0, 8 + 14 + 1 + 14 + 14},
+    {{TO(bells[0].key, 11)}, 6, 8},
+    {{TO(bells[1].rank, 256)}, 6, 15},
+    {{TO(bells[2].transposition, 1)}, 6, 22},
+    {{TO(bells[1].transposition, 252)}, 7, 15}, /* sounds for 64 */
+    {{TO(bells[2].key, 70)}, 7, 22},
+    {{TO(note_count, 65)}, 8, 29},
+    {{TO(note_count, ALL)}, 8, 29},
+    {{TO(note_count, 5)}, 10, 89}, /* the fifth has key 0 */
+    {{TO(note_count, 0)}, 0, 30},
+    {{TO(notes[0].wait_count, 5)}, 9, 30},
+    {{TO(notes[3].wait_count, ALL)}, 9, 73},
+    {{TO(notes[0].key, 64)}, 10, 30}, /* the key that the bell sounds for, which is shifted away */
+    {{TO(notes[0].key, 123)}, 0, R_SIZE},
+    {{TO(notes[1].key, 70)}, 10, 44},
+    {{TO(notes[1].key, 72)}, 10, 44}, /* struck if bells were looked up as they are written */
+    {{TO(notes[1].key, 256 + 74)}, 10, 44},
+    {{TO(notes[1].key, HIGH + 74)}, 10, 44},
+    {{TO(notes[2].key, 124)}, 10, 58},
+    {{TO(notes[2].key, ALL)}, 10, 58},
+    {{TO(notes[3].latest_call, 5)}, 11, 73},
+    {{TO(notes[2].due, ALL)}, 11, 58},
+    {{TO(notes[2].waits[0], 2)}, 12, 58},
+    {{TO(notes[3].waits[1], 256 + 2)}, 12, 73},
+
+    /* Sums must not wrap, at 256 or further up: these would strike bells that sound for 16, 20, 64, 119, 12 and 70. */
+    {{TO(shift, 24), TO(notes[0].key, 248), TO(bells[0].key, 16)}, 10, 30},
+    {{TO(shift, 24), TO(notes[0].key, ALL - 3), TO(bells[0].key, 20)}, 10, 30},
+    {{TO(shift, 24), TO(notes[0].key, 256 + 40)}, 10, 30},
+    {{TO(shift, 232), TO(notes[0].key, 256 + 143)}, 10, 30},
+    {{TO(shift, 24), TO(notes[0].key, ALL - 11), TO(bells[0].key, 12)}, 10, 30},
+    {{TO(shift, 24), TO(notes[0].key, HIGH + 46)}, 10, 30},
+    {{TO(shift, 1), TO(notes[0].key, ALL)}, 10, 30},
+    {{TO(shift, 232), TO(notes[0].key, 0)}, 10, 30},
+    {{TO(shift, 255), TO(notes[0].key, 0), TO(bells[0].key, 12)}, 10, 30},
+
+    /* Two that are wrong. */
+    {{TO(version, 3), TO(shift, 25)}, 1, 0},
+    {{TO(drivers, 9), TO(shift, 25)}, 4, 5},
+    {{TO(version, 1), TO(drivers, 0)}, 4, 5},
+    {{TO(shift, 25), TO(bell_count, 0)}, 19, 6},
+    {{TO(version, 1), TO(bell_count, 97)}, 19, 6},
+    {{TO(shift, 25), TO(bells[0].key, 0)}, 19, 6},
+    {{TO(shift, 256), TO(note_count, 65), TO(notes[0].key, 0)}, 19, 6},
+    {{TO(bell_count, 97), TO(notes[0].key, 0)}, 5, 7},
+    {{TO(notes[1].key, 0), TO(notes[1].due, ALL)}, 10, 44},
+    {{TO(notes[2].wait_count, 0), TO(notes[3].key, 0)}, 10, 72},
+};
+
 static void set_word(struct phrase *phrase, size_t at, uint32_t value)
 {
     memcpy((uint8_t *)phrase + at, &value, sizeof value);
 }
 
-static void try_change(const struct change *change)
+static void try_change(const char *origin, const struct phrase *from, const struct change *change)
 {
-    struct phrase phrase = phrase_q;
+    struct phrase phrase = *from;
     struct result due = {change->number, change->place, NULL}, too_short = {16, 0, NULL};
     struct file file;
-    char name[160] = "Q";
+    char name[160];
     int i;
+    snprintf(name, sizeof name, "%s", origin);
     for (i = 0; i < MOST_CHANGED && change->words[i].name != NULL; i++) {
         size_t length = strlen(name);
         set_word(&phrase, change->words[i].at, change->words[i].value);
@@ -415,7 +603,9 @@ static void try_changes(void)
 {
     size_t i;
     for (i = 0; i < sizeof changes / sizeof *changes; i++)
-        try_change(&changes[i]);
+        try_change("Q", &phrase_q, &changes[i]);
+    for (i = 0; i < sizeof changes_of_r / sizeof *changes_of_r; i++)
+        try_change("R", &phrase_r, &changes_of_r[i]);
 }
 
 /* ---- What phrase_write does not look at ---- */
@@ -431,6 +621,7 @@ static struct phrase with_garbage(const struct phrase *phrase, uint32_t garbage)
     dirty.drivers = phrase->drivers;
     dirty.bell_count = phrase->bell_count;
     dirty.note_count = phrase->note_count;
+    dirty.shift = phrase->shift;
     for (i = 0; i < phrase->bell_count; i++) {
         dirty.bells[i] = phrase->bells[i];
         dirty.bells[i].spare = garbage;
@@ -470,6 +661,7 @@ static void try_unset(const struct file *p)
     phrase->drivers = 1;
     phrase->bell_count = 2;
     phrase->note_count = 2;
+    phrase->shift = 0;
     for (i = 0; i < 2; i++) {
         phrase->bells[i].key = phrase_p.bells[i].key;
         phrase->bells[i].transposition = phrase_p.bells[i].transposition;
@@ -490,14 +682,15 @@ static void try_unset(const struct file *p)
 
 static void try_ignored(void)
 {
-    struct file p = from_hex("P", P), q = from_hex("Q", Q), bounds = from_hex("bounds", BOUNDS);
+    struct file p = from_hex("P", P), q = from_hex("Q", Q), bounds = from_hex("bounds", BOUNDS), r = from_hex("R", R);
     try_garbage(&p, &phrase_p);
     try_garbage(&q, &phrase_q);
     try_garbage(&bounds, &phrase_bounds);
+    try_garbage(&r, &phrase_r);
     try_unset(&p);
 }
 
-/* ---- Transpositions as numbers ---- */
+/* ---- Transpositions and shifts as numbers ---- */
 
 static void try_transpositions(void)
 {
@@ -532,16 +725,16 @@ static uint32_t draw(uint32_t bound)
     return (uint32_t)(state >> 33) % bound;
 }
 
-/* Sets one field of Q to what fits its bytes. */
+/* Sets one field of Q or R to what fits its bytes. */
 static void edit(struct phrase *phrase)
 {
-    static const uint32_t bytes[] = {0, 1, 2, 3, 4, 5, 11, 12, 24, 25, 47, 60, 74, 119, 120, 128, 231, 232, 254, 255};
+    static const uint32_t bytes[] = {0, 1, 2, 3, 4, 5, 11, 12, 24, 25, 47, 60, 64, 68, 74, 119, 120, 123, 128, 231, 232, 252, 254, 255};
     static const uint32_t numbers[] = {0, 1, 2, 3, 5, 7, 258, 772, 5000, 5001, 65535, 66051, 3600000, 3600001, ALL};
     uint32_t byte = bytes[draw(sizeof bytes / sizeof *bytes)], number = numbers[draw(sizeof numbers / sizeof *numbers)];
     struct phrase_bell *bell = &phrase->bells[draw(3)];
     struct phrase_note *note = &phrase->notes[draw(6)];
-    switch (draw(16)) {
-    case 0: phrase->version = draw(8) == 0 ? byte : 1; break;
+    switch (draw(17)) {
+    case 0: phrase->version = draw(8) == 0 ? byte : 1 + draw(2); break;
     case 1: phrase->drivers = byte; break;
     case 2: phrase->bell_count = byte; break;
     case 3: phrase->note_count = byte; break;
@@ -555,46 +748,65 @@ static void edit(struct phrase *phrase)
     case 11: note->latest_call = number; break;
     case 12: note->due = number; break;
     case 13: note->wait_count = byte < 243 ? byte : 0; break; /* 13 more fit the byte */
+    case 14: phrase->shift = byte; break;
     default: note->waits[draw(4)] = byte; break;
     }
 }
 
-/* The answer to an edited phrase is that of reading its file. Where that is read, the phrase comes back, and the file is what is written. Gives the number. */
+/* Where that is read, the phrase comes back. Gives the answer. */
+static uint64_t try_encoded(const struct file *file, const struct phrase *phrase)
+{
+    struct phrase read = *phrase, due;
+    uint64_t reading = phrase_read(file->bytes, file->size, &read);
+    memset(&due, 0, sizeof due);
+    if (phrase_refusal(reading) == 0)
+        due = as_read(phrase);
+    expect_phrase(&read, &due);
+    return reading;
+}
+
+/*
+ * The answer to an edited phrase is that of reading its file; but a version 1 file cannot show a shift, which is 19 at 6 unless 4 comes first. Where the phrase
+ * is not refused, the file is what is written. Gives the number.
+ */
 static uint32_t try_edited(const struct phrase *phrase)
 {
     struct file file = encoded(phrase);
-    struct phrase read = *phrase, due;
+    struct phrase shown = *phrase;
     uint8_t written[MOST_FILE];
-    uint64_t reading = phrase_read(file.bytes, file.size, &read);
-    uint32_t number = phrase_refusal(reading);
-    memset(&due, 0, sizeof due);
-    if (number == 0)
-        due = as_read(phrase);
-    expect_phrase(&read, &due);
+    uint64_t reading;
+    uint32_t number;
+    if (phrase->version == 1)
+        shown.shift = 0;
+    reading = try_encoded(&file, &shown);
+    if (shown.shift != phrase->shift && phrase_refusal(reading) != PHRASE_DRIVERS)
+        reading = UINT64_C(19) * 4294967296 + 6;
+    number = phrase_refusal(reading);
     expect_answer(phrase_write(phrase, written, sizeof written), number, number == 0 ? file.size : phrase_place(reading));
     if (number == 0)
         expect(memcmp(written, file.bytes, file.size) == 0, "the file is another");
     return number;
 }
 
-/* One edit to three, one after the other. Each number has to come. */
+/* One edit to three, one after the other, of Q and R in turn. Each number has to come of each. */
 static void try_random_edits(void)
 {
-    static const uint32_t numbers[] = {0, 1, 4, 5, 6, 7, 8, 9, 10, 11, 12};
-    unsigned long i, found[PHRASE_WAITS + 1] = {0};
+    static const uint32_t numbers[] = {0, 1, 4, 5, 6, 7, 8, 9, 10, 11, 12, 19};
+    static unsigned long found[2][20];
+    unsigned long i;
     for (i = 0; i < RANDOM_EDITS; i++) {
-        struct phrase phrase = phrase_q;
+        struct phrase phrase = i % 2 == 0 ? phrase_q : phrase_r;
         uint32_t count = 1 + draw(3), number;
         while (count-- > 0)
             edit(&phrase);
         snprintf(trial, sizeof trial, "random edit %lu", i);
         number = try_edited(&phrase);
-        if (number <= PHRASE_WAITS)
-            found[number]++;
+        if (number < 20)
+            found[i % 2][number]++;
     }
-    for (i = 0; i < sizeof numbers / sizeof *numbers; i++) {
-        snprintf(trial, sizeof trial, "random edits with number %u", (unsigned)numbers[i]);
-        expect(found[numbers[i]] >= RANDOM_EDITS / 1000, "they are too few");
+    for (i = 0; i < 2 * sizeof numbers / sizeof *numbers; i++) {
+        snprintf(trial, sizeof trial, "random edits of %c with number %u", "QR"[i % 2], (unsigned)numbers[i / 2]);
+        expect(found[i % 2][numbers[i / 2]] >= RANDOM_EDITS / 1000, "they are too few");
     }
 }
 
@@ -604,6 +816,8 @@ int main(void)
     file_area = map_area(MOST_FILE);
     phrase_area = map_area(sizeof(struct phrase));
     try_phrases();
+    try_shifted_phrases();
+    try_all_shifts();
     try_changes();
     try_ignored();
     try_transpositions();

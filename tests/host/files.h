@@ -20,6 +20,14 @@ struct file {
 #define P "01 0000002D 01 02 3C0000020002 01 3E0C00040004 02 02 0D 3C 00000000 00000005 00000007 0D 4A 00000000 00000000 00000006"
 #define P_WAITING "01 0000002E 01 02 3C0000020002 01 3E0C00040004 02 02 0D 3C 00000000 00000005 00000007 0E 4A 00000000 00000000 00000006 01"
 
+/* P in version 2: shifted down by four semitones, and its notes are written four higher, so it has P's text. Bells at 8 and 15, notes at 23 and 37. */
+#define P_SHIFTED "02 0000002E 01 FC 02 3C0000020002 01 3E0C00040004 02 02 0D 40 00000000 00000005 00000007 0D 4E 00000000 00000000 00000006"
+#define P_SHIFTED_WAITING \
+    "02 0000002F 01 FC 02 3C0000020002 01 3E0C00040004 02 02 0D 40 00000000 00000005 00000007 0E 4E 00000000 00000000 00000006 01"
+
+/* One stroke of one bell, shift, key of the bell and key of the note given as digits. The note stands at 16. */
+#define ONE_STROKE(shift, bell, note) "02 00000019 01" shift "01" bell "00 0001 0001 00 01 0D" note "00000000 00000000" HOUR
+
 /* Its marked phrases M1 and M5 to M8; the last also on eight drivers. */
 #define HOUR "0036EE80" /* 3600000 */
 #define M1 "01 0000002D 01 02 3C00 0001 0002 01 3E00 0003 0003 02 02 0D 3C 00000000 00000000" HOUR "0D 3E 00000000 00000000" HOUR
@@ -33,7 +41,8 @@ struct file {
 #define M8 "01 0000000A 01 01 3C00 0001 0001 00 00"
 #define M8_ON_8 "01 0000000A 08 01 3C00 0001 0001 00 00"
 
-#define UNCHANGED 0, 0x01 /* place and byte, where one is changed: byte 0 is 01 already */
+#define UNCHANGED 0, 0x01   /* place and byte, where one is changed: byte 0 is 01 already */
+#define UNCHANGED_2 0, 0x02 /* and 02 in version 2 */
 
 static inline void add_byte(struct file *file, unsigned byte)
 {
@@ -111,6 +120,48 @@ static inline void finish(struct file *file)
     file->size = 1;
     add_number(file, size - 5, 4);
     file->size = size;
+}
+
+/* What a file says is its version, for lines that name a trial; 0 when it is empty. */
+static inline unsigned version_of(const struct file *file)
+{
+    return file->size == 0 ? 0 : file->bytes[0];
+}
+
+/* A byte that is moved by so many semitones, and stays one. */
+static inline void move_key(struct file *file, size_t at, int semitones)
+{
+    int key = file->bytes[at] + semitones;
+    if (key < 0 || key > 255) {
+        fprintf(stderr, "%s: no byte for a key of this test\n", file->name);
+        exit(2);
+    }
+    file->bytes[at] = (uint8_t)key;
+}
+
+/*
+ * A version 1 file that is read, as version 2 with this shift. Notes are written as much lower as they are shifted up, so they strike the bells that they
+ * struck, and no answer or text changes.
+ */
+static inline struct file shifted(const struct file *file, int semitones)
+{
+    struct file moved;
+    size_t i, note = 8 + 7 * (size_t)file->bytes[6] + 1;
+    unsigned strokes = file->bytes[note - 2];
+    moved.name = file->name;
+    moved.size = 0;
+    for (i = 0; i < file->size; i++) {
+        if (i == 6)
+            add_byte(&moved, (unsigned)semitones & 0xFF);
+        add_byte(&moved, file->bytes[i]);
+    }
+    moved.bytes[0] = 2;
+    finish(&moved);
+    for (; strokes > 0; strokes--) {
+        move_key(&moved, note + 1, -semitones);
+        note += 1 + (size_t)moved.bytes[note];
+    }
+    return moved;
 }
 
 /*

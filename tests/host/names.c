@@ -1,7 +1,7 @@
 /*
- * Provokes every name of host/phrase.h by the calls, and holds it to the number that document 01 or request 101 or 102 gives: each refusal by document 01's
- * example of it, the table's words by a phrase that needs all of them, the text's bytes by a long text, the limits of a phrase and of a playing by one that
- * reaches them, and one that passes them. So a header with another number is seen.
+ * Provokes every name of host/phrase.h by the calls, and holds it to the number that document 01 or request 101, 102 or 104 gives: each refusal by document
+ * 01's example of it, the table's words by a phrase that needs all of them, the text's bytes by a long text, the limits of a phrase and of a playing by one
+ * that reaches them, and one that passes them. So a header with another number is seen.
  *
  * Prints one line for each failure and a count; exit status 0 when nothing failed.
  */
@@ -29,7 +29,7 @@ static void expect(const char *about, const char *what, uint64_t found, uint64_t
     "00000001 00000007"
 enum { OWN = 0 }; /* words of a table: that of phrase_check */
 
-/* Document 01's examples: a file, P with a byte changed mostly; the words of the table; number and place. */
+/* Document 01's examples: a file, P with a byte changed mostly; the words of the table; number and place. Then version 2 of those that differ in it. */
 static const struct {
     const char *name;
     enum phrase_number named;
@@ -58,6 +58,18 @@ static const struct {
     {NAMED(PHRASE_LATE), NOT_SHOWN, UNCHANGED, OWN, 14, 1},
     {NAMED(PHRASE_LATE), NOT_SHOWN, 49, 0x05, OWN, 14, 1},
     {NAMED(PHRASE_ACCEPTED), NOT_SHOWN, 49, 0x06, OWN, 0, 0},
+
+    {NAMED(PHRASE_ACCEPTED), P_SHIFTED, UNCHANGED_2, OWN, 0, 0},
+    {NAMED(PHRASE_VERSION), P_SHIFTED, 0, 0x03, OWN, 1, 0},
+    {NAMED(PHRASE_END), "02 00000001 01", UNCHANGED_2, OWN, 3, 6},
+    {NAMED(PHRASE_END), "02 00000002 01 00", UNCHANGED_2, OWN, 3, 7},
+    {NAMED(PHRASE_DRIVERS), "02 00000003 00 19 00", UNCHANGED_2, OWN, 4, 5},
+    {NAMED(PHRASE_SHIFT), "02 00000003 01 19 00", UNCHANGED_2, OWN, 19, 6},
+    {NAMED(PHRASE_SHIFT), P_SHIFTED, 6, 0x19, OWN, 19, 6},
+    {NAMED(PHRASE_SHIFT), P_SHIFTED, 6, 0xE7, 31, 19, 6},
+    {NAMED(PHRASE_BELLS), "02 00000003 01 18 00", UNCHANGED_2, OWN, 5, 7},
+    {NAMED(PHRASE_NO_BELL), P_SHIFTED, 6, 0xFB, OWN, 10, 23},
+    {NAMED(PHRASE_LATE), P_SHIFTED, 36, 0x06, OWN, 14, 0},
 };
 
 static void try_answers(void)
@@ -128,6 +140,35 @@ static void try_file_short(void)
     expect(p.name, "its length", phrase_place(answer), 50);
 }
 
+/* ---- A shift that is refused, in a file and in a phrase ---- */
+
+static void try_shift(void)
+{
+    static const struct {
+        uint32_t version, shift;
+        enum phrase_number number;
+    } writings[] = {{2, 252, PHRASE_ACCEPTED}, {2, 25, PHRASE_SHIFT}, {2, 231, PHRASE_SHIFT}, {2, 256 + 252, PHRASE_SHIFT}, {1, 252, PHRASE_SHIFT}};
+    struct file p = from_hex("PHRASE_SHIFT", P_SHIFTED);
+    struct phrase phrase;
+    uint8_t file[51];
+    uint64_t answer;
+    size_t i;
+    expect(p.name, "the name", PHRASE_SHIFT, 19);
+    expect(p.name, "the answer to reading P shifted", phrase_read(p.bytes, p.size, &phrase), PHRASE_ACCEPTED);
+    expect(p.name, "its semitones", (uint64_t)(phrase_semitones(phrase.shift) + 24), 20);
+    for (i = 0; i < sizeof writings / sizeof *writings; i++) {
+        phrase.version = writings[i].version;
+        phrase.shift = writings[i].shift;
+        answer = phrase_write(&phrase, file, sizeof file);
+        expect(p.name, "the number of writing it", phrase_refusal(answer), writings[i].number);
+        expect(p.name, "its place, or the length", phrase_place(answer), writings[i].number == PHRASE_ACCEPTED ? 51 : 6);
+    }
+    p.bytes[6] = 25;
+    answer = phrase_read(p.bytes, p.size, &phrase);
+    expect(p.name, "the number of reading P shifted by 25", phrase_refusal(answer), PHRASE_SHIFT);
+    expect(p.name, "its place", phrase_place(answer), 6);
+}
+
 /* ---- A playing that is refused ---- */
 
 /* Playings of P: its call at 5 is its latest. */
@@ -170,14 +211,16 @@ static uint32_t written_number(const struct phrase *phrase)
 
 static void try_limits(void)
 {
-    struct file file = longest();
+    struct file file = longest(), longer = shifted(&file, -24);
     struct phrase most, more;
     expect(file.name, "the answer to reading it", phrase_read(file.bytes, file.size, &most), PHRASE_ACCEPTED);
     expect(file.name, "the number of writing it", written_number(&most), PHRASE_ACCEPTED);
     expect("PHRASE_MOST_BELLS", "the bells", most.bell_count, PHRASE_MOST_BELLS);
     expect("PHRASE_MOST_NOTES", "the notes", most.note_count, PHRASE_MOST_NOTES);
     expect("PHRASE_MOST_WAITS", "the waits of the last note", most.notes[63].wait_count, PHRASE_MOST_WAITS);
-    expect("PHRASE_FILE_BYTES", "the name", PHRASE_FILE_BYTES, 1832);
+    expect("PHRASE_FILE_BYTES", "the name", PHRASE_FILE_BYTES, 1833); /* 8 + 96 * 7 + 1 + 64 * 18; notes cannot all have four waits */
+    expect("PHRASE_FILE_BYTES", "the answer to reading a longest file", phrase_read(longer.bytes, longer.size, &more), PHRASE_ACCEPTED);
+    expect("PHRASE_FILE_BYTES", "the number of writing it", written_number(&more), PHRASE_ACCEPTED);
     more = most;
     more.bell_count = PHRASE_MOST_BELLS + 1;
     expect("PHRASE_MOST_BELLS", "the refusal of one more", written_number(&more), PHRASE_BELLS);
@@ -257,6 +300,7 @@ int main(void)
     try_parts();
     try_text_short();
     try_file_short();
+    try_shift();
     try_playings();
     try_limits();
     try_playing_bytes();

@@ -1,10 +1,11 @@
 /*
  * Calls phrase_play of host/phrase.h on playings of small phrases, whose starts and ends are written here by hand; on playings that are refused, and on the
  * etude's own, cut short everywhere, with its head changed, and with each call and hold outside its range. Then on random playings, of the etude and of random
- * phrases, whose runs are worked out here too, millisecond by millisecond, as document 01 has the dispatch rule. areas.h says how memory is lent.
+ * phrases, most of these in version 2 with a shift, whose runs are worked out here too, millisecond by millisecond, as document 01 has the dispatch rule.
+ * areas.h says how memory is lent.
  *
- * Reads the etude and its playing from examples/, so it runs in the repository's root. Prints one line for each failure (the first twenty) and a count; exit
- * status 0 when nothing failed.
+ * Reads the etude, the etude down a third and their playing from examples/, so it runs in the repository's root. Prints one line for each failure (the first
+ * twenty) and a count; exit status 0 when nothing failed.
  */
 #define _DEFAULT_SOURCE
 #define TEST "playings"
@@ -13,7 +14,7 @@
 #include "areas.h"
 #include "files.h"
 
-enum { MOST_STROKES = 64, ARRAY = MOST_STROKES * sizeof(uint32_t), RANDOM_ETUDES = 2000, RANDOM_PHRASES = 4000 };
+enum { MOST_STROKES = 64, ARRAY = MOST_STROKES * sizeof(uint32_t), RANDOM_ETUDES = 2000, RANDOM_ETUDES_DOWN = 500, RANDOM_PHRASES = 4000 };
 
 static struct area file_area, playing_area, starts_area, ends_area;
 
@@ -116,8 +117,8 @@ static void expect_array(const struct area *area, const uint32_t *due, const cha
 static void try_at(const struct file *file, const struct file *playing, struct answer due, const struct run *run, struct setting setting, size_t offset)
 {
     uint64_t answer;
-    snprintf(trial, sizeof trial, "phrase_play, %s, %s, %s, filling %02X, offset %lu", file->name, playing->name, where_names[setting.where],
-             (unsigned)setting.filling, (unsigned long)offset);
+    snprintf(trial, sizeof trial, "phrase_play, %s, version %u, %s, %s, filling %02X, offset %lu", file->name, version_of(file), playing->name,
+             where_names[setting.where], (unsigned)setting.filling, (unsigned long)offset);
     lend_const(&file_area, file->bytes, file->size, setting, offset);
     lend_const(&playing_area, playing->bytes, playing->size, setting, offset);
     lend(&starts_area, ARRAY, setting, sizeof(uint32_t));
@@ -153,6 +154,9 @@ static void try_once(const struct file *file, const struct file *playing, struct
     "01 00000042 01 03 3C00 0001 0009 02 3E00 0001 0009 01 4000 0001 0009 01 03 0D 3C 00000000 00000009" HOUR "0D 3E 00000000 00000009" HOUR \
     "0D 40 00000000 00000009" HOUR
 
+/* Two strokes on one driver, both written as bell 0 is; shifted by two semitones they strike bell 1, which holds for 4 to 6 in place of 1 to 2. */
+#define OTHER_BELL "02 0000002E 01 02 02 3C00 0001 0002 01 3E00 0004 0006 01 02 0D 3C 00000000 00000009" HOUR "0D 3C 00000000 00000009" HOUR
+
 static const struct {
     const char *name, *hex;
     size_t at;
@@ -184,6 +188,14 @@ static const struct {
     {"ranks", RANKS, UNCHANGED, {3, {0, 1, 1}, {4, 5, 6}}, {{0, 4, 9}, {4, 9, 15}}},
     {"ranks", RANKS, UNCHANGED, {3, {1, 4, 0}, {9, 1, 4}}, {{5, 4, 0}, {14, 5, 4}}},
     {"ranks", RANKS, UNCHANGED, {3, {9, 8, 7}, {9, 1, 1}}, {{9, 8, 7}, {18, 9, 8}}},
+    {"P shifted", P_SHIFTED, UNCHANGED_2, {2, {1, 0}, {2, 4}}, {{4, 0}, {6, 4}}},
+    {"P shifted", P_SHIFTED, UNCHANGED_2, {2, {5, 0}, {2, 4}}, {{5, 0}, {7, 4}}},
+    {"P shifted, stroke 0 due 6", P_SHIFTED, 36, 0x06, {2, {5, 0}, {2, 4}}, {{5, 0}, {7, 4}}},
+    {"another bell", OTHER_BELL, UNCHANGED_2, {2, {0, 0}, {4, 6}}, {{0, 4}, {4, 10}}},
+    {"another bell", OTHER_BELL, UNCHANGED_2, {2, {9, 0}, {6, 5}}, {{9, 15}, {15, 20}}},
+    {"another bell, shift 0", OTHER_BELL, 6, 0x00, {2, {0, 0}, {1, 2}}, {{0, 1}, {1, 3}}},
+    {"key 143 shifted by -24", ONE_STROKE("E8", "77", "8F"), UNCHANGED_2, {1, {0}, {1}}, {{0}, {1}}},
+    {"key 0 shifted by 24", ONE_STROKE("18", "18", "00"), UNCHANGED_2, {1, {0}, {1}}, {{0}, {1}}},
 };
 
 static void try_runs(void)
@@ -238,6 +250,8 @@ static void try_longest(void)
     snprintf(trial, sizeof trial, "a longest playing");
     expect_number(bytes.size, 389, "its length");
     try_play(&file, &bytes, worked_out, &run);
+    file = shifted(&file, -24);
+    try_play(&file, &bytes, worked_out, &run);
     bytes.size--;
     try_play(&file, &bytes, wrong_playing, &no_run);
 }
@@ -269,6 +283,18 @@ static const struct {
     {"row 11", P, 27, 0x06, PLAYING_P, {11, 22}},
     {"row 12", P_WAITING, UNCHANGED, PLAYING_P, {12, 36}},
     {"row 12", P_WAITING, UNCHANGED, "01 0000000C FFFFFFFF FFFF 00000000 0004", {12, 36}},
+    {"version 3", P_SHIFTED, 0, 0x03, PLAYING_P, {1, 0}},
+    {"version 2, row 4, shift 25", "02 00000002 00 19", UNCHANGED_2, PLAYING_P, {4, 5}},
+    {"no shift", "02 00000001 01", UNCHANGED_2, "01 00000000", {3, 6}},
+    {"P shifted by 25", P_SHIFTED, 6, 0x19, PLAYING_P, {19, 6}},
+    {"P shifted by -25", P_SHIFTED, 6, 0xE7, "", {19, 6}},
+    {"P shifted by -128", P_SHIFTED, 6, 0x80, "02 0000000C 00000006 0002 00000000 0004", {19, 6}},
+    {"P shifted by 25", P_SHIFTED, 6, 0x19, "01 0000000C FFFFFFFF FFFF 00000000 0004", {19, 6}},
+    {"shift 25, no bells", "02 00000003 01 19 00", UNCHANGED_2, PLAYING_P, {19, 6}},
+    {"no bell count", "02 00000002 01 00", UNCHANGED_2, PLAYING_P, {3, 7}},
+    {"version 2, row 5", "02 00000003 01 00 00", UNCHANGED_2, PLAYING_P, {5, 7}},
+    {"P shifted by -3", P_SHIFTED, 6, 0xFD, PLAYING_P, {10, 23}},
+    {"version 2, row 12", P_SHIFTED_WAITING, UNCHANGED_2, PLAYING_P, {12, 37}},
     /* Then 17. */
     {"P", P, UNCHANGED, "", {17, 0}},
     {"P", P, UNCHANGED, "01", {17, 0}},
@@ -297,6 +323,9 @@ static const struct {
     {"M8", M8, UNCHANGED, "01 00000000 00", {17, 0}},
     {"M8", M8, UNCHANGED, "01 00000001 00", {17, 0}},
     {"M8", M8, UNCHANGED, "01 00000006 00000000 0001", {17, 0}},
+    {"P shifted", P_SHIFTED, UNCHANGED_2, "", {17, 0}},
+    {"P shifted", P_SHIFTED, UNCHANGED_2, "02 0000000C 00000005 0002 00000000 0004", {17, 0}}, /* a playing has one version */
+    {"P shifted", P_SHIFTED, UNCHANGED_2, "01 0000000D 00000005 0002 00000000 0004", {17, 0}},
     /* Then 18. */
     {"P", P, UNCHANGED, "01 0000000C 00000006 0002 00000000 0004", {18, 0}},
     {"P", P, UNCHANGED, "01 0000000C 00000105 0002 00000000 0004", {18, 0}},
@@ -311,6 +340,10 @@ static const struct {
     {"P", P, UNCHANGED, "01 0000000C 00000005 0003 00000001 0004", {18, 0}},
     {"P", P, UNCHANGED, "01 0000000C 00000006 0002 00000000 0005", {18, 0}},
     {"P, stroke 0 due 6", P, 35, 0x06, "01 0000000C 00000005 0002 00000000 0005", {18, 1}},
+    {"P shifted", P_SHIFTED, UNCHANGED_2, "01 0000000C 00000006 0002 00000000 0004", {18, 0}},
+    {"P shifted", P_SHIFTED, UNCHANGED_2, "01 0000000C 00000005 0002 00000000 0005", {18, 1}},
+    {"another bell", OTHER_BELL, UNCHANGED_2, "01 0000000C 00000000 0002 00000000 0006", {18, 0}}, /* a hold of bell 0, which is not struck */
+    {"another bell", OTHER_BELL, UNCHANGED_2, "01 0000000C 00000000 0004 00000000 0001", {18, 1}},
 };
 
 static void try_refusals(void)
@@ -591,13 +624,13 @@ static struct file random_phrase(unsigned number)
     return file;
 }
 
-/* Phrases that the check accepts, and others; each kind has to come. */
+/* Phrases that the check accepts, and others; each kind has to come. Two of three are in version 2, shifted. */
 static void try_random_phrases(void)
 {
     static const uint32_t numbers[] = {PHRASE_ACCEPTED, PHRASE_TABLE_FULL, PHRASE_LATE};
     unsigned i, found[PHRASE_LATE + 1] = {0};
     for (i = 0; i < RANDOM_PHRASES; i++) {
-        struct file file = random_phrase(i);
+        struct file plain = random_phrase(i), file = i % 3 == 0 ? plain : shifted(&plain, (int)(i % 49) - 24);
         struct phrase phrase = phrase_of(&file);
         struct reported reported = reported_of(&file);
         found[reported.number]++;
@@ -627,6 +660,22 @@ static void try_etude(void)
     try_random(&etude, &phrase, &reported, RANDOM_ETUDES);
 }
 
+/* The etude down a third, on lower bells: what the etude does, in its playing and in random ones. */
+static void try_etude_down(void)
+{
+    struct file etude = from_disk("examples/etude.phrase"), down = from_disk("examples/etude-down.phrase"), bytes = from_disk("examples/etude.playing");
+    struct phrase phrase = phrase_of(&etude), lower = phrase_of(&down);
+    struct playing playing = decoded(&bytes);
+    struct run run = simulated(&phrase, &playing);
+    struct reported reported = reported_of(&etude), found = reported_of(&down);
+    uint32_t i;
+    try_play(&down, &bytes, worked_out, &run);
+    expect(memcmp(&found, &reported, sizeof found) == 0, "what is reported is not what is reported of the etude");
+    for (i = 0; i < phrase.note_count; i++)
+        expect(lower.notes[i].key == phrase.notes[i].key && lower.notes[i].bell == phrase.notes[i].bell, "a note is not that of the etude");
+    try_random(&down, &lower, &reported, RANDOM_ETUDES_DOWN);
+}
+
 int main(void)
 {
     begin_test();
@@ -639,6 +688,7 @@ int main(void)
     try_longest();
     try_refusals();
     try_etude();
+    try_etude_down();
     try_random_phrases();
     return end_test();
 }

@@ -1,7 +1,7 @@
 /*
  * Makes the seven calls of host/phrase.h from several threads at the same time, on phrases with different answers, and holds each answer, text, file and run
- * to what document 01 and requests 101 and 102 say. Buffers are the threads' own; only the files and the playing are shared, which the calls only read. The
- * threads have as much stack as phrase.h says that every call can do with.
+ * to what document 01 and requests 101, 102 and 104 say. Buffers are the threads' own; only the files and the playing are shared, which the calls only read.
+ * The threads have as much stack as phrase.h says that every call can do with.
  *
  * Prints one line for each thread that saw a difference, else a count; exit status 0 when there was none.
  */
@@ -13,30 +13,36 @@
 
 #include "phrase.h"
 
-enum { THREADS = 8, ROUNDS = 4000, CALLS = 7, WORDS = 64, ROOM = 200, STACK = 128 * 1024 };
+enum { THREADS = 12, ROUNDS = 4000, CALLS = 7, WORDS = 64, ROOM = 200, STACK = 128 * 1024 };
 
 struct example {
     const char *name;
-    uint8_t file[50];
+    uint8_t file[51];
     size_t size;
     uint64_t answer;
     const char *text;
 };
 
-/* P, P with stroke 0 due 6, P with byte 37 = 3E, and a file without m. */
+/* P, P with stroke 0 due 6, P with byte 37 = 3E, a file without m, P shifted down by four semitones, with keys as much higher, and P shifted by 25. */
 #define P_TO_DUE                                                                                                                                   \
     0x01, 0x00, 0x00, 0x00, 0x2D, 0x01, 0x02, 0x3C, 0x00, 0x00, 0x02, 0x00, 0x02, 0x01, 0x3E, 0x0C, 0x00, 0x04, 0x00, 0x04, 0x02, 0x02, 0x0D, 0x3C, \
         0x00, 0x00, 0x00, 0x00, 0x00, 0x00, 0x00, 0x05, 0x00, 0x00, 0x00
 #define P_FROM_KEY(key) 0x0D, key, 0x00, 0x00, 0x00, 0x00, 0x00, 0x00, 0x00, 0x00, 0x00, 0x00, 0x00, 0x06
+#define P_SHIFTED(shift)                                                                                                                                  \
+    0x02, 0x00, 0x00, 0x00, 0x2E, 0x01, shift, 0x02, 0x3C, 0x00, 0x00, 0x02, 0x00, 0x02, 0x01, 0x3E, 0x0C, 0x00, 0x04, 0x00, 0x04, 0x02, 0x02, 0x0D, 0x40, \
+        0x00, 0x00, 0x00, 0x00, 0x00, 0x00, 0x00, 0x05, 0x00, 0x00, 0x00, 0x07, P_FROM_KEY(0x4E)
+#define P_TEXT                                               \
+    "stroke 0 key C4 bell 0 ends 2..7 response 2..7 due 7\n" \
+    "stroke 1 key D5 bell 1 ends 4..6 response 4..6 due 6\n" \
+    "accepted strokes 2 states 4 hold 6\n"
 
 static const struct example examples[] = {
-    {"P", {P_TO_DUE, 0x07, P_FROM_KEY(0x4A)}, 50, 0,
-     "stroke 0 key C4 bell 0 ends 2..7 response 2..7 due 7\n"
-     "stroke 1 key D5 bell 1 ends 4..6 response 4..6 due 6\n"
-     "accepted strokes 2 states 4 hold 6\n"},
+    {"P", {P_TO_DUE, 0x07, P_FROM_KEY(0x4A)}, 50, 0, P_TEXT},
     {"P, stroke 0 due 6", {P_TO_DUE, 0x06, P_FROM_KEY(0x4A)}, 50, UINT64_C(14) << 32, "refused 14 stroke 0 ends 6..7\n"},
     {"row 10", {P_TO_DUE, 0x07, P_FROM_KEY(0x3E)}, 50, (UINT64_C(10) << 32) + 36, "refused 10 at 36\n"},
     {"no m", {0x01, 0x00, 0x00, 0x00, 0x00}, 5, (UINT64_C(3) << 32) + 5, "refused 3 at 5\n"},
+    {"P shifted", {P_SHIFTED(0xFC)}, 51, 0, P_TEXT},
+    {"P shifted by 25", {P_SHIFTED(0x19)}, 51, (UINT64_C(19) << 32) + 6, "refused 19 at 6\n"},
 };
 enum { EXAMPLES = sizeof examples / sizeof *examples };
 
@@ -56,10 +62,11 @@ static int is_text(const struct example *example, const uint8_t *text, size_t le
     return length == strlen(example->text) && memcmp(text, example->text, length) == 0;
 }
 
-/* What document 01 says of reading: refusals 1 to 12. */
+/* What document 01 says of reading: refusals 1 to 12, and 19. */
 static uint64_t reading(const struct example *example)
 {
-    return phrase_refusal(example->answer) <= PHRASE_WAITS ? example->answer : 0;
+    uint32_t number = phrase_refusal(example->answer);
+    return number <= PHRASE_WAITS || number == PHRASE_SHIFT ? example->answer : 0;
 }
 
 /* The phrase is written as the file that it was read from. Where that was refused, all is zero, which is refused with 1 at 0. */

@@ -11,12 +11,11 @@ use Rattle.model.specs.Exploration.{Verdict}
 use Rattle.model.proofs.Places.{refused-within, late-within}
 use Rattle.format.specs.Phrase.{Phrase}
 use Rattle.format.specs.Jobs.{jobsOf}
-use Rattle.format.specs.Layout.{first, mostBytes}
+use Rattle.format.specs.Layout.{longestFile}
 use Rattle.format.specs.Outcome.{Outcome, ok}
 use Rattle.format.specs.Reading.{reading}
 use Rattle.format.specs.Outcome.{refused as unread}
 use Rattle.format.specs.Bytes.{AreBytes}
-use Rattle.format.proofs.First.{first-bytes}
 use Rattle.format.proofs.Refusals.{refused-within as unread-within}
 use Rattle.checking.specs.Checking.{capacityFor, verdict, answerFor, valuesOf}
 use Rattle.checking.proofs.Promise.{few-jobs}
@@ -28,11 +27,11 @@ analysed-place js m cap few (refused n at) e = omega (arith, refused-within js m
 analysed-place js m cap few (late i x y) e = omega (arith, late-within js m cap i x y e)
 
 module _ (file : List ℕ) (bytes : AreBytes file) (words : ℕ) where
-  verdict-place : (o : Outcome Phrase) → reading file ≡ o → valuesOf (answerFor (verdict o words)) .place ≤ mostBytes first
+  verdict-place : (o : Outcome Phrase) → reading file ≡ o → valuesOf (answerFor (verdict o words)) .place ≤ longestFile
   verdict-place (ok x) e =
-      omega (arith, first-bytes, analysed-place (jobsOf x) (x .cores) (capacityFor x words) (few-jobs file bytes x e) (verdict (ok x) words) refl)
+      omega (arith, analysed-place (jobsOf x) (x .cores) (capacityFor x words) (few-jobs file bytes x e) (verdict (ok x) words) refl)
   verdict-place (unread n at) e = omega (arith, unread-within file n at e)
 
   -- No place is beyond the longest file of a phrase.
-  pub place-within : valuesOf (answerFor (verdict (reading file) words)) .place ≤ mostBytes first
+  pub place-within : valuesOf (answerFor (verdict (reading file) words)) .place ≤ longestFile
   place-within = verdict-place (reading file) refl

@@ -1,2 +1,3 @@
 -- Laws of the fields of records.
 pub mod ListedJobs
+pub mod Shifts

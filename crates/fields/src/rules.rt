@@ -3,8 +3,11 @@ ghost use mathlib.Core.Path.{_≡_};
 ghost use Prim.Native.Nat.{_<_};
 ghost use Rattle.format.specs.Bytes.{within};
 ghost use Rattle.format.specs.Phrase.{transposed};
-ghost use Rattle.format.specs.Rules.{isTransposition, isExecutionRange, bellInRange, areTimes};
+ghost use Rattle.format.specs.Rules.{isTransposition, isShift, isExecutionRange, bellInRange, areTimes};
+ghost use Rattle.format.specs.internal.Sized.{Sized};
 ghost use Rattle.fields.specs.internal.BellWith.{bellWith};
+ghost use Rattle.fields.specs.internal.Layouts.{layoutOf};
+use crate::layout::Layout;
 use model::limits::LATEST_TIME;
 use model::limits::LONGEST_EXECUTION;
 
@@ -27,6 +30,17 @@ fn is_transposition(t: u32) -> bool
     t <= MOST_TRANSPOSED || is_within(256 - MOST_TRANSPOSED, 255, t)
 }
 
+// The shift of a phrase: 0 where the version has none.
+pub fn is_shift(l: Layout, shift: u32) -> bool
+    requires { ⌜ Sized (layoutOf l) ⌝ }
+    ensures { λ r. ⌜ r ≡ isShift (layoutOf l) shift ⌝ }
+{
+    if l.shift == 0 {
+        return shift == 0;
+    }
+    is_transposition(shift)
+}
+
 fn is_execution_range(least: u32, most: u32) -> bool
     ensures { λ r. ⌜ r ≡ isExecutionRange least most ⌝ }
 {
@@ -39,7 +53,7 @@ fn is_execution_range(least: u32, most: u32) -> bool
     most <= LONGEST_EXECUTION
 }
 
-// The key that a bell sounds for. The transposition is a signed byte; a sum below zero is no key, and 0 here.
+// A key moved by a transposition or a shift, which is a signed byte; a sum below zero is no key, and 0 here.
 pub fn transposed(written: u32, transposition: u32) -> u32
     requires { ⌜ (written < 256) × (transposition < 256) ⌝ }
     ensures { λ r. ⌜ r ≡ transposed written transposition ⌝ }

@@ -6,12 +6,12 @@ use lib.Dec.{leb}
 use lib.ListN.{length}
 use borrow.Author.Tests.{leb-true, le-leb}
 use Rattle.model.specs.Limits.{mostCores}
-use Rattle.model.specs.Refusals.{wrongVersion, wrongCores, wrongBellCount, tooManyNotes, wrongNoteLength}
+use Rattle.model.specs.Refusals.{wrongVersion, wrongCores, wrongBellCount, tooManyNotes, wrongNoteLength, wrongShift}
 use Rattle.format.specs.Bytes.{within}
-use Rattle.format.specs.Layout.{Layout, isVersion, layout, coresAt, bellCountAt, bellsAt, bellBytes, noteCountAt, mostBells, mostListed, noteLength}
+use Rattle.format.specs.Layout.{Layout, isVersion, layout, coresAt, shiftAt, bellCountAt, bellsAt, bellBytes, noteCountAt, mostBells, mostListed, noteLength}
 use Rattle.format.specs.Outcome.{ok}
 use Rattle.format.specs.Phrase.{Bell, Note, Phrase}
-use Rattle.format.specs.Rules.{bellRules, noteRules, bellsRules, notesRules, allBells, allNotes, rulesBy, rules}
+use Rattle.format.specs.Rules.{isShift, bellRules, noteRules, bellsRules, notesRules, allBells, allNotes, rulesBy, rules}
 use Rattle.format.specs.Valid.{Each, ValidBell, ValidNote, ValidBy, Valid}
 use Rattle.format.proofs.Passed.{within-true, true-within, is-none, required, bound}
 use Rattle.format.proofs.Given.{bell-passed, note-passed}
@@ -36,23 +36,23 @@ module _ (l : Layout) where
   bells-pass (b ∷ bs) at before v =
       simp (v .0 .inRange, v .0 .alone) (bells-pass bs (at + bellBytes l) (before ++ b ∷ []) (v .1) ∙ ap ok (append-assoc before (b ∷ []) bs))
 
-  module _ (bells : List Bell) where
-    notes-passed : (rest : List Note) (at : ℕ) (before notes : List Note) → notesRules l bells rest at before ≡ ok notes
-        → Each (ValidNote bells) before rest × (before ++ rest ≡ notes)
+  module _ (shift : ℕ) (bells : List Bell) where
+    notes-passed : (rest : List Note) (at : ℕ) (before notes : List Note) → notesRules l shift bells rest at before ≡ ok notes
+        → Each (ValidNote shift bells) before rest × (before ++ rest ≡ notes)
     unfolding notesRules Each
     notes-passed [] at before notes e = (tt, append-nil before ∙ cc e)
     notes-passed (n ∷ ns) at before notes e =
         let few = required (leb (length (n .listed)) mostListed) wrongNoteLength at e in
-        let step = bound (noteRules bells (length before) at n) (few .1) in
-        let this = note-passed bells (length before) at n (step .0) (step .1) in
+        let step = bound (noteRules shift bells (length before) at n) (few .1) in
+        let this = note-passed shift bells (length before) at n (step .0) (step .1) in
         let to : ℕ = at + (1 + noteLength l (length (n .listed))) in
-        let next : notesRules l bells ns to (before ++ n ∷ []) ≡ ok notes = ap (λ (c : Note). notesRules l bells ns to (before ++ c ∷ [])) (this .3) ∙ step .2 in
+        let next : notesRules l shift bells ns to (before ++ n ∷ []) ≡ ok notes = ap (λ (c : Note). notesRules l shift bells ns to (before ++ c ∷ [])) (this .3) ∙ step .2 in
         let those = notes-passed ns to (before ++ n ∷ []) notes next in (
           (record { sounds = this .0; times = this .1; few = leb-true (length (n .listed)) mostListed (few .0); rising = this .2 }, those .0),
           sym (append-assoc before (n ∷ []) ns) ∙ those .1,
         )
 
-    notes-pass : (rest : List Note) (at : ℕ) (before : List Note) → Each (ValidNote bells) before rest → notesRules l bells rest at before ≡ ok (before ++ rest)
+    notes-pass : (rest : List Note) (at : ℕ) (before : List Note) → Each (ValidNote shift bells) before rest → notesRules l shift bells rest at before ≡ ok (before ++ rest)
     unfolding notesRules noteRules Each
     notes-pass [] at before v = ap ok (sym (append-nil before))
     notes-pass (n ∷ ns) at before v =
@@ -65,21 +65,23 @@ module _ (l : Layout) where
   passed-by x y e =
       let k : ℕ = noteCountAt l (length (x .bells)) in
       let cores = required (within 1 mostCores (x .cores)) wrongCores coresAt e in
-      let bells = bound (allBells l (x .bells)) (cores .1) in
-      let notes = bound (allNotes l (bells .0) (x .notes) k) (bells .2) in
+      let shift = required (isShift l (x .shift)) wrongShift shiftAt (cores .1) in
+      let bells = bound (allBells l (x .bells)) (shift .1) in
+      let notes = bound (allNotes l (x .shift) (bells .0) (x .notes) k) (bells .2) in
       let a = required (within 1 mostBells (length (x .bells))) wrongBellCount (bellCountAt l) (bells .1) in
       let c = required (leb (length (x .notes)) (l .mostNotes)) tooManyNotes k (notes .1) in
       let bs = bells-passed (x .bells) (bellsAt l) [] (bells .0) (a .1) in
-      let ns = notes-passed (bells .0) (x .notes) (k + l .countBytes) [] (notes .0) (c .1) in
-      let same : record { version = x .version; cores = x .cores; bells = bells .0; notes = notes .0 } ≡ y = cc (notes .2) in
-      let put : x ≡ record { version = x .version; cores = x .cores; bells = bells .0; notes = notes .0 } =
-      λ i. record { version = x .version; cores = x .cores; bells = bs .1 i; notes = ns .1 i } in (
+      let ns = notes-passed (x .shift) (bells .0) (x .notes) (k + l .countBytes) [] (notes .0) (c .1) in
+      let same : record { version = x .version; cores = x .cores; shift = x .shift; bells = bells .0; notes = notes .0 } ≡ y = cc (notes .2) in
+      let put : x ≡ record { version = x .version; cores = x .cores; shift = x .shift; bells = bells .0; notes = notes .0 } =
+      λ i. record { version = x .version; cores = x .cores; shift = x .shift; bells = bs .1 i; notes = ns .1 i } in (
         record {
           cores = within-true 1 mostCores (x .cores) (cores .0);
+          shift = shift .0;
           bellCount = within-true 1 mostBells (length (x .bells)) (a .0);
           bells = bs .0;
           noteCount = leb-true (length (x .notes)) (l .mostNotes) (c .0);
-          notes = subst (λ (b : List Bell). Each (ValidNote b) [] (x .notes)) (sym (bs .1)) (ns .0);
+          notes = subst (λ (b : List Bell). Each (ValidNote (x .shift) b) [] (x .notes)) (sym (bs .1)) (ns .0);
         },
         put ∙ same,
       )
@@ -89,10 +91,11 @@ module _ (l : Layout) where
   pass-by x v =
       simp (
         true-within 1 mostCores (x .cores) (v .cores),
+        v .shift,
         true-within 1 mostBells (length (x .bells)) (v .bellCount),
         bells-pass (x .bells) (bellsAt l) [] (v .bells),
         le-leb (length (x .notes)) (l .mostNotes) (v .noteCount),
-        notes-pass (x .bells) (x .notes) (noteCountAt l (length (x .bells)) + l .countBytes) [] (v .notes),
+        notes-pass (x .shift) (x .bells) (x .notes) (noteCountAt l (length (x .bells)) + l .countBytes) [] (v .notes),
       )
 
 -- What the rules let pass is valid, and is what was asked.

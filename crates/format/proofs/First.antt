@@ -1,4 +1,4 @@
--- The records of version 1 as bytes at their places (numbers by their bytes: Digits). Assumes nothing.
+-- The records of version 1 as bytes at their places (numbers by their bytes: Digits); Versions says that those of version 2 are the same. Assumes nothing.
 use Prim.Native.Nat.{ℕ, zero, suc, _+_, _-_, _*_, _/_, _<_}
 use mathlib.Core.Path.{_≡_, refl, sym, ap, _∙_}
 use mathlib.Core.Bool.{Bool, true, false, _&&_}
@@ -9,7 +9,7 @@ use lib.Dec.{leb, eqb}
 use lib.ListN.{length, getD, replicate, length-replicate}
 use borrow.Author.Tests.{leb-true, leb-false, le-leb, lt-leb, eq-eqb, ne-eqb}
 use Rattle.format.specs.Bytes.{byteAt, number, within, fieldsIn}
-use Rattle.format.specs.Layout.{isVersion, first, noteBytes, mostListed, noteLength, listedCount, isNoteLength, mostBytes}
+use Rattle.format.specs.Layout.{first, noteBytes, mostListed, noteLength, listedCount, isNoteLength}
 use Rattle.format.specs.Reading.{bellIn, listedBy, noteIn}
 use Rattle.format.proofs.Digits.{number-one}
 use Rattle.format.proofs.Fields.{fields-count}
@@ -104,24 +104,3 @@ note-length n = go ((n - noteBytes) / 1) (omega arith) (leb noteBytes n) refl (l
     go k e true q false r =
         let high = leb-false n (noteBytes + mostListed) r in
         simp (lt-leb k mostListed (omega arith), q, r)
-
--- ---- the version
-
--- Version 1 is a version.
-pub is-version : (v : ℕ) → v ≡ 1 → isVersion v ≡ true
-unfolding isVersion within
-is-version v e = ap isVersion e
-
--- No other number is one.
-pub no-version : (v : ℕ) → (v ≡ 1 → ⊥) → isVersion v ≡ false
-unfolding isVersion within
-no-version zero h = refl
-no-version (suc zero) h = absurd (h refl)
-no-version (suc (suc v)) h = simp (le-leb 1 (suc (suc v)) (omega arith), lt-leb (suc (suc v)) 1 (omega arith))
-
--- ---- the longest file
-
--- It has 1,832 bytes.
-pub first-bytes : mostBytes first ≡ 1832
-unfolding mostBytes
-first-bytes = refl

@@ -11,7 +11,7 @@ use Rattle.model.specs.Refusals.{wrongEnd, wrongBell, doubledKey, wrongNoteLeng
 use Rattle.format.specs.Bytes.{AreBytes, number, total, fieldsIn, fieldsFile}
 use Rattle.format.specs.Layout.{Layout, bellBytes, noteLength, isNoteLength, bellWidths, noteWidths}
 use Rattle.format.specs.Outcome.{ok}
-use Rattle.format.specs.Phrase.{Bell, Note, sounding, find, isNone, isSome}
+use Rattle.format.specs.Phrase.{Bell, Note, sounding, findSounding, find, isNone, isSome}
 use Rattle.format.specs.Rules.{bellInRange, bellRules, areTimes, rises, noteRules}
 use Rattle.format.specs.Reading.{bellIn, bellRecord, listedBy, noteIn, noteRecord}
 use Rattle.format.specs.Writing.{bellFields, bellFile, noteFile}
@@ -31,19 +31,19 @@ opened p bytes ws vs n t e h =
 
 -- A bell that the rules let pass keeps to them, and is the one that they were asked.
 pub bell-passed : (before : List Bell) (at : ℕ) (a b : Bell) → bellRules before at a ≡ ok b
-    → (bellInRange a ≡ true) × (isNone (find (sounding a) before) ≡ true) × (a ≡ b)
+    → (bellInRange a ≡ true) × (isNone (findSounding (sounding a) before) ≡ true) × (a ≡ b)
 unfolding bellRules
 bell-passed before at a b e =
     let range = required (bellInRange a) wrongBell at e in
-    let alone = required (isNone (find (sounding a) before)) doubledKey at (range .1) in
+    let alone = required (isNone (findSounding (sounding a) before)) doubledKey at (range .1) in
     (range .0, alone .0, cc (alone .1))
 
 -- A note that the rules let pass keeps to them, and is the one that they were asked.
-pub note-passed : (bells : List Bell) (own at : ℕ) (a b : Note) → noteRules bells own at a ≡ ok b
-    → (isSome (find (a .key) bells) ≡ true) × (areTimes (a .earliestRelease) (a .latestRelease) (a .deadline) ≡ true) × (rises own 0 (a .listed) ≡ true) × (a ≡ b)
+pub note-passed : (shift : ℕ) (bells : List Bell) (own at : ℕ) (a b : Note) → noteRules shift bells own at a ≡ ok b
+    → (isSome (find (a .key) shift bells) ≡ true) × (areTimes (a .earliestRelease) (a .latestRelease) (a .deadline) ≡ true) × (rises own 0 (a .listed) ≡ true) × (a ≡ b)
 unfolding noteRules
-note-passed bells own at a b e =
-    let sounds = required (isSome (find (a .key) bells)) silentKey at e in
+note-passed shift bells own at a b e =
+    let sounds = required (isSome (find (a .key) shift bells)) silentKey at e in
     let times = required (areTimes (a .earliestRelease) (a .latestRelease) (a .deadline)) wrongTimes at (sounds .1) in
     let rise = required (rises own 0 (a .listed)) wrongListed at (times .1) in
     (sounds .0, times .0, rise .0, cc (rise .1))
@@ -103,14 +103,14 @@ module _ (l : Layout) (p : List ℕ) where
         ∙ ap (λ (j : ℕ). fieldsFile (noteWidths l j) (noteLength l j ∷ later l p) ++ drop n p) (sym listed-length)
 
 -- A note that is read from bytes is given by them.
-pub note-given : (l : Layout) (bells : List Bell) (own at : ℕ) (p : List ℕ) (n : Note) → AreBytes p
-    → noteRecord l bells own at p ≡ ok n → NoteGiven l p n
+pub note-given : (l : Layout) (shift : ℕ) (bells : List Bell) (own at : ℕ) (p : List ℕ) (n : Note) → AreBytes p
+    → noteRecord l shift bells own at p ≡ ok n → NoteGiven l p n
 unfolding noteRecord
-note-given l bells own at p n bytes e =
+note-given l shift bells own at p n bytes e =
     let some = required (leb 1 (length p)) wrongEnd at e in
     let size = required (isNoteLength l (number 1 0 p)) wrongNoteLength at (some .1) in
     let long = required (ltb (number 1 0 p) (length p)) wrongEnd at (size .1) in
-    let same : noteIn l p ≡ n = note-passed bells own at (noteIn l p) n (long .1) .3 in
+    let same : noteIn l p ≡ n = note-passed shift bells own at (noteIn l p) n (long .1) .3 in
     let is = length-is l (number 1 0 p) (size .0) in
     let enough = ltb-true (number 1 0 p) (length p) (long .0) in
     subst (NoteGiven l p) same record { fits = note-fits l p bytes (is .1); file = note-whole l p bytes (is .1) enough }

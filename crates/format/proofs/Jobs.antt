@@ -18,10 +18,10 @@ use Rattle.model.proofs.Booleans.{and-left, and-right}
 use Rattle.model.proofs.Folds.{not-in-nil, member-cases}
 use Rattle.model.proofs.Predecessors.{predecessor-earlier}
 use Rattle.format.specs.Layout.{Layout, layout, mostListed}
-use Rattle.format.specs.Phrase.{Bell, Note, Phrase, sounding, findFrom, find, isSome}
+use Rattle.format.specs.Phrase.{Bell, Note, Phrase, transposed, sounding, findFrom, find, isSome}
 use Rattle.format.specs.Rules.{lowestKey, bellInRange, rises}
 use Rattle.format.specs.Valid.{Each, ValidBell, ValidNote, ValidBy, Valid}
-use Rattle.format.specs.Jobs.{noBell, noNote, note, orFirst, struck, jobOf, jobsOf}
+use Rattle.format.specs.Jobs.{noBell, noNote, note, shiftedKey, orFirst, struck, jobOf, jobsOf}
 use Rattle.format.specs.internal.Analysable.{InRanges, mostPredecessors, Analysable}
 use Rattle.format.proofs.Ranges.{BellRanges, bell-ranges, times}
 
@@ -60,17 +60,18 @@ was-some : (o : Option ℕ) → isSome o ≡ true → o ≡ some (orFirst o)
 was-some (some x) e = refl
 was-some none e = absurd (false≢true e)
 
--- The bell that a note strikes is there, is in range, and sounds for the key.
-pub strikes : (bells : List Bell) (n : Note) → Each ValidBell [] bells → isSome (find (n .key) bells) ≡ true
-    → (struck bells n < length bells) × (bellInRange (getD bells (struck bells n) noBell) ≡ true) × (sounding (getD bells (struck bells n) noBell) ≡ n .key)
-strikes bells n v e =
-    let k : ℕ = struck bells n in
-    let f = found-from (n .key) 0 bells k (was-some (find (n .key) bells) e) in
+-- The bell that a note strikes is there, is in range, and sounds for the key moved by the shift.
+pub strikes : (shift : ℕ) (bells : List Bell) (n : Note) → Each ValidBell [] bells → isSome (find (n .key) shift bells) ≡ true
+    → (struck shift bells n < length bells) × (bellInRange (getD bells (struck shift bells n) noBell) ≡ true) × (sounding (getD bells (struck shift bells n) noBell) ≡ transposed (n .key) shift)
+strikes shift bells n v e =
+    let k : ℕ = struck shift bells n in
+    let f = found-from (transposed (n .key) shift) 0 bells k (was-some (find (n .key) shift bells) e) in
     let same : f .place ≡ k = omega (arith, f .numbered) in
     let there : k < length bells = omega (arith, f .there) in
     (there, each-at ValidBell [] bells v k noBell there .inRange, ap (λ (i : ℕ). sounding (getD bells i noBell)) (sym same) ∙ f .sounds)
 
-getD-map : {A B : Type 0} (f : A → B) (xs : List A) (i : ℕ) (d : A) (e : B) → i < length xs → getD (map f xs) i e ≡ f (getD xs i d)
+-- An element of a mapped list is the image of the element.
+pub getD-map : {A B : Type 0} (f : A → B) (xs : List A) (i : ℕ) (d : A) (e : B) → i < length xs → getD (map f xs) i e ≡ f (getD xs i d)
 getD-map f [] i d e h = absurd (not-suc-le-zero h)
 getD-map f (x ∷ xs) zero d e h = refl
 getD-map f (x ∷ xs) (suc i) d e h = getD-map f xs i d e (le-of-suc-le-suc h)
@@ -95,30 +96,30 @@ few-near (some x) = omega arith
 
 module _ (l : Layout) (x : Phrase) (v : ValidBy l x) (i : ℕ) (h : i < length (jobsOf x)) where
   inside : i < length (x .notes)
-  inside = omega (arith, length-map (x .notes) (jobOf (x .bells)))
+  inside = omega (arith, length-map (x .notes) (jobOf (x .shift) (x .bells)))
 
-  is-job : job (jobsOf x) i ≡ jobOf (x .bells) (note x i)
-  is-job = getD-map (jobOf (x .bells)) (x .notes) i noNote _ inside
+  is-job : job (jobsOf x) i ≡ jobOf (x .shift) (x .bells) (note x i)
+  is-job = getD-map (jobOf (x .shift) (x .bells)) (x .notes) i noNote _ inside
 
-  rule : ValidNote (x .bells) (take i (x .notes)) (note x i)
-  rule = each-at (ValidNote (x .bells)) [] (x .notes) (v .notes) i noNote inside
+  rule : ValidNote (x .shift) (x .bells) (take i (x .notes)) (note x i)
+  rule = each-at (ValidNote (x .shift) (x .bells)) [] (x .notes) (v .notes) i noNote inside
 
   own : length (take i (x .notes)) ≡ i
   own = length-take-le i (x .notes) (omega (arith, inside))
 
   struck-bell : Bell
-  struck-bell = getD (x .bells) (struck (x .bells) (note x i)) noBell
+  struck-bell = getD (x .bells) (struck (x .shift) (x .bells) (note x i)) noBell
 
-  sounds : (bellInRange struck-bell ≡ true) × (sounding struck-bell ≡ note x i .key)
+  sounds : (bellInRange struck-bell ≡ true) × (sounding struck-bell ≡ shiftedKey x i)
   unfolding struck-bell
   sounds =
-      let s = strikes (x .bells) (note x i) (v .bells) (rule .sounds) in
+      let s = strikes (x .shift) (x .bells) (note x i) (v .bells) (rule .sounds) in
       (s .1, s .2)
 
   bell : BellRanges struck-bell
   bell = bell-ranges struck-bell (sounds .0)
 
-  key : lowestKey ≤ note x i .key
+  key : lowestKey ≤ shiftedKey x i
   key = rw (sounds .1) at (bell .sounds .0)
 
   ranges : InRanges (job (jobsOf x) i)
@@ -147,7 +148,7 @@ analysable x valid =
     let v = valid .fields in
     record {
       cores = v .cores;
-      jobCount = omega (arith, v .noteCount, length-map (x .notes) (jobOf (x .bells)));
+      jobCount = omega (arith, v .noteCount, length-map (x .notes) (jobOf (x .shift) (x .bells)));
       ranges = ranges l x v;
       earlier = predecessor-earlier (jobsOf x) (x .cores) (well-formed l x v);
       few = few l x v;

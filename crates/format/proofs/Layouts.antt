@@ -8,9 +8,10 @@ use native.Mathlib.Omega.{arith}
 use lib.Dec.{leb, ltb, eqb}
 use lib.ListN.{getD}
 use borrow.Author.Tests.{leb-true, ltb-true, eqb-true, eq-eqb}
+use Rattle.model.specs.Limits.{mostJobs}
 use Rattle.model.proofs.Booleans.{and-left, and-right}
 use Rattle.format.specs.Bytes.{total}
-use Rattle.format.specs.Layout.{Layout, first, versions, layout, bellsAt, bellBytes, noteCountAt, mostBells, noteBytes, mostListed, noteLength, listedCount, isNoteLength, mostBytes, headWidths, bellWidths, noteWidths}
+use Rattle.format.specs.Layout.{Layout, first, versions, layout, bellsAt, bellBytes, noteCountAt, mostBells, noteBytes, mostListed, noteLength, listedCount, isNoteLength, mostBytes, longestFile, headWidths, bellWidths, noteWidths}
 use Rattle.format.specs.internal.Sized.{Sized}
 use Rattle.format.proofs.Fields.{total-same}
 
@@ -30,22 +31,25 @@ kept-at keeps (l ∷ ls) h (suc i) d e = kept-at keeps ls (and-right (keeps l) _
 
 keepsSizes : Layout → Bool
 keepsSizes l =
-    leb 1 (l .countBytes)
+    leb (l .shiftBytes) 1
+    && (leb 1 (l .countBytes)
     && (leb (l .countBytes) 2
     && (ltb (l .mostNotes) (256 ^ l .countBytes)
-    && (leb 1 (l .listedBytes) && (leb (l .listedBytes) 2 && (leb (l .mostNotes) (256 ^ l .listedBytes) && leb (l .mostNotes) 256)))))
+    && (leb 1 (l .listedBytes) && (leb (l .listedBytes) 2 && (leb (l .mostNotes) (256 ^ l .listedBytes) && leb (l .mostNotes) 256))))))
 
 kept : (l : Layout) → keepsSizes l ≡ true → Sized l
 unfolding keepsSizes
 kept l e =
-    let e1 = and-right (leb 1 (l .countBytes)) _ e in
+    let e0 = and-right (leb (l .shiftBytes) 1) _ e in
+    let e1 = and-right (leb 1 (l .countBytes)) _ e0 in
     let e2 = and-right (leb (l .countBytes) 2) _ e1 in
     let e3 = and-right (ltb (l .mostNotes) (256 ^ l .countBytes)) _ e2 in
     let e4 = and-right (leb 1 (l .listedBytes)) _ e3 in
     let e5 = and-right (leb (l .listedBytes) 2) _ e4 in
     record {
+      shift = leb-true (l .shiftBytes) 1 (and-left (leb (l .shiftBytes) 1) _ e);
       count = (
-        leb-true 1 (l .countBytes) (and-left (leb 1 (l .countBytes)) _ e),
+        leb-true 1 (l .countBytes) (and-left (leb 1 (l .countBytes)) _ e0),
         leb-true (l .countBytes) 2 (and-left (leb (l .countBytes) 2) _ e1),
         ltb-true (l .mostNotes) (256 ^ l .countBytes) (and-left (ltb (l .mostNotes) (256 ^ l .countBytes)) _ e2),
       );
@@ -65,12 +69,22 @@ sized v = kept (layout v) (kept-at keepsSizes versions refl (v - 1) first refl)
 -- ---- every row allows at most the longest file
 
 keepsBytes : Layout → Bool
-keepsBytes l = leb (mostBytes l) (mostBytes first)
+keepsBytes l = leb (mostBytes l) longestFile
 
--- No version allows a longer file than the first.
-pub longest : (v : ℕ) → mostBytes (layout v) ≤ mostBytes first
+-- No version allows a longer file than the longest.
+pub longest : (v : ℕ) → mostBytes (layout v) ≤ longestFile
 unfolding layout allRows keepsBytes mostBytes
-longest v = leb-true (mostBytes (layout v)) (mostBytes first) (kept-at keepsBytes versions refl (v - 1) first refl)
+longest v = leb-true (mostBytes (layout v)) longestFile (kept-at keepsBytes versions refl (v - 1) first refl)
+
+-- ---- every row allows at most as many notes as there are jobs
+
+keepsNotes : Layout → Bool
+keepsNotes l = leb (l .mostNotes) mostJobs
+
+-- No version allows more notes than the analysis takes jobs.
+pub most-notes : (v : ℕ) → layout v .mostNotes ≤ mostJobs
+unfolding layout allRows keepsNotes
+most-notes v = leb-true (layout v .mostNotes) mostJobs (kept-at keepsNotes versions refl (v - 1) first refl)
 
 -- ---- widths
 
@@ -149,4 +163,4 @@ module _ (l : Layout) where
     -- The length of a file fits the four bytes of the count.
     pub bytes-small : mostBytes l < 256 ^ 4
     unfolding mostBytes
-    bytes-small = omega (arith, z .count, mul-le-mul (z .notes) length-small)
+    bytes-small = omega (arith, z .shift, z .count, mul-le-mul (z .notes) length-small)

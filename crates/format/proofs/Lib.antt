@@ -4,6 +4,7 @@ pub mod Digits
 pub mod Fields
 pub mod First
 pub mod Layouts
+pub mod Versions
 pub mod Sizes
 pub mod Records
 pub mod Written
@@ -17,3 +18,5 @@ pub mod Files
 pub mod Jobs
 pub mod Steps
 pub mod Rising
+pub mod Before
+pub mod Shifting

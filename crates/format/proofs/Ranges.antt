@@ -1,5 +1,5 @@
 -- The fields of a valid phrase fit their bytes. Assumes nothing.
-use Prim.Native.Nat.{ℕ, _+_, _*_, _^_, _≤_, _<_}
+use Prim.Native.Nat.{ℕ, _+_, _-_, _*_, _^_, _≤_, _<_}
 use mathlib.Core.Path.{_≡_, refl}
 use mathlib.Core.Logic.{_⊎_, inl, inr}
 use mathlib.Core.Bool.{Bool, true, false, cond, _&&_, false≢true}
@@ -9,13 +9,13 @@ use native.Mathlib.Nat.{suc-mul}
 use native.Mathlib.Omega.{arith}
 use lib.Dec.{leb, ltb, eqb}
 use lib.ListN.{length, replicate, length-append}
-use borrow.Author.Tests.{leb-true, ltb-true, eqb-true}
+use borrow.Author.Tests.{leb-true, ltb-true, ltb-false, eqb-true}
 use Rattle.model.specs.Limits.{longestExecution, latestTime}
 use Rattle.model.proofs.Booleans.{and-left, and-right, or-cases}
 use Rattle.format.specs.Bytes.{digits, within, records}
 use Rattle.format.specs.Layout.{Layout, versions, isVersion, layout, bellsAt, mostListed, noteLength, mostBytes}
-use Rattle.format.specs.Phrase.{Bell, Note, Phrase, sounding, findFrom, isSome}
-use Rattle.format.specs.Rules.{lowestKey, highestKey, isTransposition, isExecutionRange, bellInRange, areTimes, rises}
+use Rattle.format.specs.Phrase.{Bell, Note, Phrase, sounding, transposed, findFrom, isSome}
+use Rattle.format.specs.Rules.{lowestKey, highestKey, isTransposition, isShift, isExecutionRange, bellInRange, areTimes, rises}
 use Rattle.format.specs.Valid.{Each, ValidBell, ValidNote, ValidBy, Valid}
 use Rattle.format.specs.Writing.{bellFile, noteFile, body}
 use Rattle.format.specs.Fits.{FieldsFit, All, FitsBy, Fits}
@@ -36,8 +36,8 @@ executions least most e =
     let order = leb-true least most (and-left (leb least most) _ r) in
     (low, order, leb-true most longestExecution (and-right (leb least most) _ r))
 
--- a transposition is at most 24 up or down
-transposes : (t : ℕ) → isTransposition t ≡ true → (t ≤ 24) ⊎ ((232 ≤ t) × (t ≤ 255))
+-- A transposition is at most 24 up or down.
+pub transposes : (t : ℕ) → isTransposition t ≡ true → (t ≤ 24) ⊎ ((232 ≤ t) × (t ≤ 255))
 unfolding isTransposition
 transposes t e = go (or-cases (leb t 24) (within 232 255 t) e)
   where
@@ -110,6 +110,20 @@ found-key key i before (b ∷ bs) v e = go (eqb (sounding b) key) refl e (found-
     go true q f later = omega (arith, eqb-true (sounding b) key q, bell-ranges b (v .0 .inRange) .sounds)
     go false q f later = later f
 
+-- A shift is a transposition, and fits its bytes.
+pub shift-fits : (l : Layout) (t : ℕ) → isShift l t ≡ true → (isTransposition t ≡ true) × (t < 256 ^ l .shiftBytes)
+unfolding isShift
+shift-fits l t e = (and-left (isTransposition t) _ e, ltb-true t (256 ^ l .shiftBytes) (and-right (isTransposition t) _ e))
+
+-- A key that a shift moves to one of a bell is a byte.
+pub key-small : (key t : ℕ) → isTransposition t ≡ true → transposed key t ≤ highestKey → key < 256
+key-small key t e h = go (transposes t e) (ltb t 128) refl h
+  where
+    go : (t ≤ 24) ⊎ ((232 ≤ t) × (t ≤ 255)) → (b : Bool) → ltb t 128 ≡ b → cond b (key + t) (key + t - 256) ≤ highestKey → key < 256
+    go c true q f = omega arith
+    go (inl c) false q f = omega (arith, ltb-false t 128 q)
+    go (inr c) false q f = omega arith
+
 listed-fit : (w own low : ℕ) (ws : List ℕ) → own ≤ 256 ^ w → rises own low ws ≡ true → FieldsFit (replicate (length ws) w) ws
 unfolding rises
 listed-fit w own low [] h e = tt
@@ -118,23 +132,23 @@ listed-fit w own low (x ∷ xs) h e =
     let below = ltb-true x own (and-left (ltb x own) _ r) in
     (omega arith, listed-fit w own (x + 1) xs h (and-right (ltb x own) _ r))
 
-module _ (l : Layout) (bells : List Bell) where
-  module _ (z : Sized l) (v : Each ValidBell [] bells) where
-    note-fits : (before : List Note) (n : Note) → ValidNote bells before n → length before ≤ l .mostNotes → NoteFits l n
+module _ (l : Layout) (shift : ℕ) (bells : List Bell) where
+  module _ (z : Sized l) (v : Each ValidBell [] bells) (s : isTransposition shift ≡ true) where
+    note-fits : (before : List Note) (n : Note) → ValidNote shift bells before n → length before ≤ l .mostNotes → NoteFits l n
     note-fits before n r h =
         let t = times (n .earliestRelease) (n .latestRelease) (n .deadline) (r .times) in
-        let key : n .key ≤ highestKey = found-key (n .key) 0 [] bells v (r .sounds) in
+        let key : n .key < 256 = key-small (n .key) shift s (found-key (transposed (n .key) shift) 0 [] bells v (r .sounds)) in
         let size : noteLength l (length (n .listed)) < 256 = omega (arith, lengths l (length (n .listed)) (r .few), length-small l z) in
         let listed = listed-fit (l .listedBytes) (length before) 0 (n .listed) (omega (arith, z .listed)) (r .rising) in
         (size, (omega arith, (omega (arith, t), (omega (arith, t), (omega (arith, t), listed)))))
 
-    notes-fit : (before notes : List Note) → Each (ValidNote bells) before notes → length before + length notes ≤ l .mostNotes → All (NoteFits l) notes
+    notes-fit : (before notes : List Note) → Each (ValidNote shift bells) before notes → length before + length notes ≤ l .mostNotes → All (NoteFits l) notes
     unfolding Each All
     notes-fit before [] r h = tt
     notes-fit before (n ∷ ns) r h =
         (note-fits before n (r .0) (omega arith), notes-fit (before ++ n ∷ []) ns (r .1) (omega (arith, length-append before (n ∷ []))))
 
-  notes-length : (before notes : List Note) → Each (ValidNote bells) before notes → All (NoteFits l) notes
+  notes-length : (before notes : List Note) → Each (ValidNote shift bells) before notes → All (NoteFits l) notes
       → length (records (noteFile l) notes) ≤ length notes * (1 + noteLength l mostListed)
   unfolding records Each All
   notes-length before [] r f = omega arith
@@ -159,7 +173,7 @@ module _ (l : Layout) (z : Sized l) (x : Phrase) (v : ValidBy l x) where
   bells-ok = bells-fit l [] (x .bells) (v .bells)
 
   notes-ok : All (NoteFits l) (x .notes)
-  notes-ok = notes-fit l (x .bells) z (v .bells) [] (x .notes) (v .notes) (omega (arith, v .noteCount))
+  notes-ok = notes-fit l (x .shift) (x .bells) z (v .bells) (shift-fits l (x .shift) (v .shift) .0) [] (x .notes) (v .notes) (omega (arith, v .noteCount))
 
   -- What follows the header of a valid phrase leaves no more than the longest file.
   pub body-length : bellsAt l + length (body l x) ≤ mostBytes l
@@ -174,14 +188,14 @@ module _ (l : Layout) (z : Sized l) (x : Phrase) (v : ValidBy l x) where
         length-append one two,
         digits-length (l .countBytes) k,
         bells-size l (x .bells),
-        notes-length l (x .bells) [] (x .notes) (v .notes) notes-ok,
+        notes-length l (x .shift) (x .bells) [] (x .notes) (v .notes) notes-ok,
         notes-within l (length (x .bells)) k (v .bellCount .1) (v .noteCount),
       )
 
   fits-by : x .version < 256 → FitsBy l x
   fits-by version =
       record {
-        head = (version, (omega (arith, body-length, bytes-small l z), (omega (arith, v .cores), (omega (arith, v .bellCount), tt))));
+        head = (version, (omega (arith, body-length, bytes-small l z), (omega (arith, v .cores), (shift-fits l (x .shift) (v .shift) .1, (omega (arith, v .bellCount), tt)))));
         bells = bells-ok;
         count = omega (arith, v .noteCount, z .count);
         notes = notes-ok;

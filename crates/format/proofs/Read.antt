@@ -10,13 +10,14 @@ use lib.ListN.{length, take, drop, length-drop, drop-of-length-le, take-append-d
 use lib.Seq.{drop-drop, getD-drop}
 use borrow.Author.Tests.{leb-true, ltb-true, eqb-true}
 use Rattle.model.specs.Limits.{mostCores}
-use Rattle.model.specs.Refusals.{wrongVersion, wrongCount, wrongEnd, wrongCores, wrongBellCount, tooManyNotes}
+use Rattle.model.specs.Refusals.{wrongVersion, wrongCount, wrongEnd, wrongCores, wrongBellCount, tooManyNotes, wrongShift}
 use Rattle.model.proofs.Booleans.{and-right}
 use Rattle.format.specs.Bytes.{AreBytes, number, digits, within, fieldsIn, fieldsFile, records}
-use Rattle.format.specs.Layout.{Layout, isVersion, layout, byteCountAt, uncountedBytes, coresAt, bellCountAt, bellsAt, bellBytes, noteCountAt, mostBells, headWidths}
+use Rattle.format.specs.Layout.{Layout, isVersion, layout, byteCountAt, uncountedBytes, coresAt, shiftAt, bellCountAt, bellsAt, bellBytes, noteCountAt, mostBells, headWidths}
 use Rattle.format.specs.Outcome.{ok}
 use Rattle.format.specs.Phrase.{Bell, Note, Phrase}
-use Rattle.format.specs.Reading.{bellRecord, noteRecord, bellsFrom, notesFrom, bellsIn, notesIn, readingBy, reading}
+use Rattle.format.specs.Rules.{isShift}
+use Rattle.format.specs.Reading.{shiftIn, bellRecord, noteRecord, bellsFrom, notesFrom, bellsIn, notesIn, readingBy, reading}
 use Rattle.format.specs.Writing.{bellFile, noteFile, body, headFields, writtenBy, written}
 use Rattle.format.specs.Fits.{FieldsFit, All, FitsBy, Fits}
 use Rattle.format.proofs.Passed.{required, bound}
@@ -67,17 +68,17 @@ module _ (l : Layout) (s : List ℕ) (bytes : AreBytes s) where
     fits : All (NoteFits l) rest
     file : drop at s ≡ records (noteFile l) rest
 
-  notes-given : (bells : List Bell) (n at : ℕ) (before notes : List Note) → notesFrom l s bells n at before ≡ ok notes → NotesGiven n at before notes
+  notes-given : (shift : ℕ) (bells : List Bell) (n at : ℕ) (before notes : List Note) → notesFrom l s shift bells n at before ≡ ok notes → NotesGiven n at before notes
   unfolding notesFrom All records
-  notes-given bells zero at before notes e =
+  notes-given shift bells zero at before notes e =
       let end = required (leb (length s) at) wrongEnd at e in
       let same : before ≡ notes = cc (end .1) in
       record { rest = []; whole = append-nil before ∙ same; count = refl; fits = tt; file = drop-of-length-le s (leb-true (length s) at (end .0)) }
-  notes-given bells (suc n) at before notes e =
-      let step = bound (noteRecord l bells (length before) at (drop at s)) e in
+  notes-given shift bells (suc n) at before notes e =
+      let step = bound (noteRecord l shift bells (length before) at (drop at s)) e in
       let m : Note = step .0 in
-      let this = note-given l bells (length before) at (drop at s) m (drop-bytes at s bytes) (step .1) in
-      let those = notes-given bells n (at + (1 + number 1 at s)) (before ++ m ∷ []) notes (step .2) in
+      let this = note-given l shift bells (length before) at (drop at s) m (drop-bytes at s bytes) (step .1) in
+      let those = notes-given shift bells n (at + (1 + number 1 at s)) (before ++ m ∷ []) notes (step .2) in
       let after = drop-drop (1 + number 1 0 (drop at s)) at s ∙ ap (λ (k : ℕ). drop (at + (1 + k)) s) (number-drop 1 at s) ∙ those .file in
       record {
         rest = m ∷ those .rest;
@@ -89,7 +90,7 @@ module _ (l : Layout) (s : List ℕ) (bytes : AreBytes s) where
 
   abbrev phraseOf : List Bell → List Note → Phrase
   phraseOf bells notes =
-      record { version = number 1 0 s; cores = number 1 coresAt s; bells = bells; notes = notes }
+      record { version = number 1 0 s; cores = number 1 coresAt s; shift = shiftIn l s; bells = bells; notes = notes }
 
   abbrev noteAt : ℕ
   noteAt = noteCountAt l (number 1 (bellCountAt l) s)
@@ -113,14 +114,16 @@ module _ (l : Layout) (s : List ℕ) (bytes : AreBytes s) where
       let count = required (leb uncountedBytes (length s) && eqb (number 4 byteCountAt s) (length s - uncountedBytes)) wrongCount 0 e in
       let core = required (ltb coresAt (length s)) wrongEnd coresAt (count .1) in
       let cores = required (within 1 mostCores (number 1 coresAt s)) wrongCores coresAt (core .1) in
-      let bells = bound (bellsIn l s) (cores .1) in
-      let notes = bound (notesIn l s (bells .0) noteAt) (bells .2) in
+      let reach = required (leb (shiftAt + l .shiftBytes) (length s)) wrongEnd shiftAt (cores .1) in
+      let shift = required (isShift l (shiftIn l s)) wrongShift shiftAt (reach .1) in
+      let bells = bound (bellsIn l s) (shift .1) in
+      let notes = bound (notesIn l s (shiftIn l s) (bells .0) noteAt) (bells .2) in
       let a = required (ltb (bellCountAt l) (length s)) wrongEnd (bellCountAt l) (bells .1) in
       let b = required (within 1 mostBells k) wrongBellCount (bellCountAt l) (a .1) in
       let c = required (leb (noteAt + l .countBytes) (length s)) wrongEnd noteAt (notes .1) in
       let d = required (leb (number (l .countBytes) noteAt s) (l .mostNotes)) tooManyNotes noteAt (c .1) in
       let bs = bells-given k (bellsAt l) [] (bells .0) (b .1) in
-      let ns = notes-given (bells .0) (number (l .countBytes) noteAt s) (noteAt + l .countBytes) [] (notes .0) (d .1) in
+      let ns = notes-given (shiftIn l s) (bells .0) (number (l .countBytes) noteAt s) (noteAt + l .countBytes) [] (notes .0) (d .1) in
       let same : phraseOf (bells .0) (notes .0) ≡ x = cc (notes .2) in
       subst
       (λ (y : Phrase). FileGiven (y .bells) (y .notes) × (phraseOf (y .bells) (y .notes) ≡ x))
@@ -155,8 +158,8 @@ module _ (l : Layout) (s : List ℕ) (bytes : AreBytes s) where
     head-back : headFields l x ≡ fieldsIn (headWidths l) 0 s
     unfolding x fieldsIn
     head-back =
-        let size : 1 + 1 + length (body l x) ≡ number 4 byteCountAt s = omega (arith, ap length body-back, length-drop (bellsAt l) s, g .count, g .longer) in
-        λ i. number 1 0 s ∷ size i ∷ number 1 coresAt s ∷ g .bellCount i ∷ []
+        let size : 1 + l .shiftBytes + 1 + length (body l x) ≡ number 4 byteCountAt s = omega (arith, ap length body-back, length-drop (bellsAt l) s, g .count, g .longer) in
+        λ i. number 1 0 s ∷ size i ∷ number 1 coresAt s ∷ shiftIn l s ∷ g .bellCount i ∷ []
 
     file-back : writtenBy l x ≡ s
     unfolding writtenBy

@@ -74,16 +74,16 @@ module _ (l : Layout) where
             ∙ ap noteOf note-fields
 
         -- The record of a note, once written, is read by the count of its numbers and its rules alone.
-        pub note-back : (bells : List Bell) (own at : ℕ)
-            → noteRecord l bells own at (noteFile l n ++ more) ≡ _>>_ (require (leb (length (n .listed)) mostListed) wrongNoteLength at) (noteRules bells own at n)
+        pub note-back : (shift : ℕ) (bells : List Bell) (own at : ℕ)
+            → noteRecord l shift bells own at (noteFile l n ++ more) ≡ _>>_ (require (leb (length (n .listed)) mostListed) wrongNoteLength at) (noteRules shift bells own at n)
         unfolding noteRecord
-        note-back bells own at =
+        note-back shift bells own at =
             let p : List ℕ = noteFile l n ++ more in
             let some : 1 ≤ length p = omega (arith, note-size l n, length-append (noteFile l n) more) in
             let long : number 1 0 p < length p = omega (arith, note-size l n, note-first, length-append (noteFile l n) more) in
-            let last : Outcome Note = noteRules bells own at (noteIn l p) in
+            let last : Outcome Note = noteRules shift bells own at (noteIn l p) in
             let two : Outcome Note = _>>_ (require (ltb (number 1 0 p) (length p)) wrongEnd at) last in
             passed (leb 1 (length p)) wrongEnd at (_>>_ (require (isNoteLength l (number 1 0 p)) wrongNoteLength at) two) (le-leb 1 (length p) some)
-            ∙ same-require (isNoteLength l (number 1 0 p)) (leb (length (n .listed)) mostListed) wrongNoteLength at two (noteRules bells own at n)
+            ∙ same-require (isNoteLength l (number 1 0 p)) (leb (length (n .listed)) mostListed) wrongNoteLength at two (noteRules shift bells own at n)
             (ap (isNoteLength l) note-first ∙ note-lengths l z (length (n .listed)))
-            (passed (ltb (number 1 0 p) (length p)) wrongEnd at last (lt-ltb (number 1 0 p) (length p) long) ∙ ap (noteRules bells own at) note-same)
+            (passed (ltb (number 1 0 p) (length p)) wrongEnd at last (lt-ltb (number 1 0 p) (length p) long) ∙ ap (noteRules shift bells own at) note-same)

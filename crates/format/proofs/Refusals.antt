@@ -1,7 +1,7 @@
--- The numbers and places of the refusals of reading and of the rules: 1 to 12, and no place beyond the longest file of the version. Assumes nothing.
+-- The numbers and places of the refusals of reading and of the rules: 1 to 12 and 19, and no place beyond the longest file of the version. Assumes nothing.
 use Prim.Native.Nat.{ℕ, zero, suc, _+_, _-_, _*_, _≤_}
 use mathlib.Core.Path.{_≡_, refl, sym}
-use mathlib.Core.Bool.{Bool, true, false, _&&_, _||_}
+use mathlib.Core.Bool.{Bool, true, false, _&&_, _||_, false≢true}
 use mathlib.Core.List.{List, [], _∷_, _++_}
 use native.Mathlib.Nat.{suc-mul}
 use native.Mathlib.Omega.{arith}
@@ -9,20 +9,31 @@ use lib.Dec.{leb, ltb, eqb}
 use lib.ListN.{length, drop}
 use borrow.Author.Tests.{leb-true}
 use Rattle.model.specs.Limits.{mostCores}
-use Rattle.model.specs.Refusals.{wrongVersion, wrongCount, wrongEnd, wrongCores, wrongBellCount, wrongBell, doubledKey, tooManyNotes, wrongNoteLength, silentKey, wrongTimes, wrongListed}
+use Rattle.model.specs.Refusals.{wrongVersion, wrongCount, wrongEnd, wrongCores, wrongBellCount, wrongBell, doubledKey, tooManyNotes, wrongNoteLength, silentKey, wrongTimes, wrongListed, wrongShift}
 use Rattle.format.specs.Bytes.{number, within}
-use Rattle.format.specs.Layout.{Layout, first, isVersion, layout, byteCountAt, uncountedBytes, coresAt, bellCountAt, bellsAt, bellBytes, noteCountAt, mostBells, mostListed, noteLength, listedCount, isNoteLength, mostBytes}
+use Rattle.format.specs.Layout.{Layout, isVersion, layout, byteCountAt, uncountedBytes, coresAt, shiftAt, bellCountAt, bellsAt, bellBytes, noteCountAt, mostBells, mostListed, noteLength, listedCount, isNoteLength, mostBytes, longestFile}
 use Rattle.format.specs.Outcome.{Outcome, ok, refused, _>>=_, _>>_, require}
-use Rattle.format.specs.Phrase.{Bell, Note, Phrase, sounding, find, isNone, isSome}
-use Rattle.format.specs.Rules.{bellInRange, bellRules, areTimes, rises, noteRules, bellsRules, notesRules, allBells, allNotes, rulesBy, rules}
-use Rattle.format.specs.Reading.{bellIn, bellRecord, noteIn, noteRecord, bellsFrom, notesFrom, bellsIn, notesIn, readingBy, reading}
+use Rattle.format.specs.Phrase.{Bell, Note, Phrase, sounding, findSounding, find, isNone, isSome}
+use Rattle.format.specs.Rules.{isShift, bellInRange, bellRules, areTimes, rises, noteRules, bellsRules, notesRules, allBells, allNotes, rulesBy, rules}
+use Rattle.format.specs.Reading.{bellIn, bellRecord, noteIn, noteRecord, bellsFrom, notesFrom, shiftIn, bellsIn, notesIn, readingBy, reading}
 use Rattle.format.proofs.Passed.{within-true, never, required}
 use Rattle.format.proofs.Digits.{number-drop}
 use Rattle.format.proofs.Layouts.{longest, length-is, lengths, head-within, bells-within, notes-within}
 
+-- a number that a refusal of reading or of the rules may have: 1 to 12, or 19
+unfoldable pub isReadingRefusal : ℕ → Bool
+unfolding within
+isReadingRefusal n = within wrongVersion wrongListed n || eqb n wrongShift
+
+-- Such a number is not 0.
+pub some-number : (n : ℕ) → isReadingRefusal n ≡ true → 1 ≤ n
+unfolding isReadingRefusal within
+some-number zero e = absurd (false≢true e)
+some-number (suc n) e = omega arith
+
 -- a number and a place that a refusal may have
 abbrev Known : Layout → ℕ → ℕ → Type 0
-Known l n at = (within wrongVersion wrongListed n ≡ true) × (at ≤ mostBytes l)
+Known l n at = (isReadingRefusal n ≡ true) × (at ≤ mostBytes l)
 
 -- the outcome has such, if it is a refusal
 abbrev Refuses : {A : Type 0} → Layout → Outcome A → Type 0
@@ -47,9 +58,9 @@ module _ {A : Type 0} (l : Layout) where
   then-refuses (refused n at) h f = known-refuses n at (h n at refl)
 
 -- a note that is read is not longer than one that lists the most
-record-size : (l : Layout) (bells : List Bell) (own at : ℕ) (p : List ℕ) (n : Note) → noteRecord l bells own at p ≡ ok n → number 1 0 p ≤ noteLength l mostListed
+record-size : (l : Layout) (shift : ℕ) (bells : List Bell) (own at : ℕ) (p : List ℕ) (n : Note) → noteRecord l shift bells own at p ≡ ok n → number 1 0 p ≤ noteLength l mostListed
 unfolding noteRecord
-record-size l bells own at p n e =
+record-size l shift bells own at p n e =
     let some = required (leb 1 (length p)) wrongEnd at e in
     let size = required (isNoteLength l (number 1 0 p)) wrongNoteLength at (some .1) in
     let is = length-is l (number 1 0 p) (size .0) in
@@ -60,26 +71,26 @@ module _ (l : Layout) where
 
   module _ (at : ℕ) (h : at ≤ mostBytes l) where
     bell-rules-refuse : (before : List Bell) (b : Bell) → Refuses l (bellRules before at b)
-    unfolding bellRules within
+    unfolding bellRules isReadingRefusal
     bell-rules-refuse before b =
-        require-refuses l (bellInRange b) wrongBell at (refl, h) (λ r. require-refuses l (isNone (find (sounding b) before)) doubledKey at (refl, h) (λ a. value-refuses l b))
+        require-refuses l (bellInRange b) wrongBell at (refl, h) (λ r. require-refuses l (isNone (findSounding (sounding b) before)) doubledKey at (refl, h) (λ a. value-refuses l b))
 
-    note-rules-refuse : (bells : List Bell) (own : ℕ) (n : Note) → Refuses l (noteRules bells own at n)
-    unfolding noteRules within
-    note-rules-refuse bells own n =
-        require-refuses l (isSome (find (n .key) bells)) silentKey at (refl, h)
+    note-rules-refuse : (shift : ℕ) (bells : List Bell) (own : ℕ) (n : Note) → Refuses l (noteRules shift bells own at n)
+    unfolding noteRules isReadingRefusal
+    note-rules-refuse shift bells own n =
+        require-refuses l (isSome (find (n .key) shift bells)) silentKey at (refl, h)
         (λ b. require-refuses l (areTimes (n .earliestRelease) (n .latestRelease) (n .deadline)) wrongTimes at (refl, h) (λ t. require-refuses l (rises own 0 (n .listed)) wrongListed at (refl, h) (λ r. value-refuses l n)))
 
     bell-refuses : (before : List Bell) (p : List ℕ) → Refuses l (bellRecord l before at p)
-    unfolding bellRecord within
+    unfolding bellRecord isReadingRefusal
     bell-refuses before p = require-refuses l (leb (bellBytes l) (length p)) wrongEnd at (refl, h) (λ e. bell-rules-refuse before (bellIn l p))
 
-    note-refuses : (bells : List Bell) (own : ℕ) (p : List ℕ) → Refuses l (noteRecord l bells own at p)
-    unfolding noteRecord within
-    note-refuses bells own p =
+    note-refuses : (shift : ℕ) (bells : List Bell) (own : ℕ) (p : List ℕ) → Refuses l (noteRecord l shift bells own at p)
+    unfolding noteRecord isReadingRefusal
+    note-refuses shift bells own p =
         require-refuses l (leb 1 (length p)) wrongEnd at (refl, h)
         (λ e. require-refuses l (isNoteLength l (number 1 0 p)) wrongNoteLength at (refl, h)
-        (λ w. require-refuses l (ltb (number 1 0 p) (length p)) wrongEnd at (refl, h) (λ r. note-rules-refuse bells own (noteIn l p))))
+        (λ w. require-refuses l (ltb (number 1 0 p) (length p)) wrongEnd at (refl, h) (λ r. note-rules-refuse shift bells own (noteIn l p))))
 
   -- ---- the rules
 
@@ -91,40 +102,41 @@ module _ (l : Layout) where
       then-refuses l (bellRules before at b) (bell-rules-refuse at (omega (arith, k)) before b)
       (λ c e. bells-rules-refuse bs (at + bellBytes l) (omega (arith, k)) (before ++ c ∷ []))
 
-  notes-rules-refuse : (bells : List Bell) (notes : List Note) (at : ℕ) → at + length notes * (1 + noteLength l mostListed) ≤ mostBytes l → (before : List Note)
-      → Refuses l (notesRules l bells notes at before)
-  unfolding notesRules within
-  notes-rules-refuse bells [] at h before = value-refuses l before
-  notes-rules-refuse bells (n ∷ ns) at h before =
+  notes-rules-refuse : (shift : ℕ) (bells : List Bell) (notes : List Note) (at : ℕ) → at + length notes * (1 + noteLength l mostListed) ≤ mostBytes l → (before : List Note)
+      → Refuses l (notesRules l shift bells notes at before)
+  unfolding notesRules isReadingRefusal
+  notes-rules-refuse shift bells [] at h before = value-refuses l before
+  notes-rules-refuse shift bells (n ∷ ns) at h before =
       let k = suc-mul (length ns) (1 + noteLength l mostListed) in
       let here : at ≤ mostBytes l = omega (arith, k) in
       require-refuses l (leb (length (n .listed)) mostListed) wrongNoteLength at (refl, here)
-      (λ few. then-refuses l (noteRules bells (length before) at n) (note-rules-refuse at here bells (length before) n)
-      (λ c e. notes-rules-refuse bells ns (at + (1 + noteLength l (length (n .listed)))) (omega (arith, k, lengths l (length (n .listed)) (leb-true (length (n .listed)) mostListed few))) (before ++ c ∷ [])))
+      (λ few. then-refuses l (noteRules shift bells (length before) at n) (note-rules-refuse at here shift bells (length before) n)
+      (λ c e. notes-rules-refuse shift bells ns (at + (1 + noteLength l (length (n .listed)))) (omega (arith, k, lengths l (length (n .listed)) (leb-true (length (n .listed)) mostListed few))) (before ++ c ∷ [])))
 
   all-bells-refuse : (bells : List Bell) → Refuses l (allBells l bells)
-  unfolding allBells within
+  unfolding allBells isReadingRefusal
   all-bells-refuse bells =
       require-refuses l (within 1 mostBells (length bells)) wrongBellCount (bellCountAt l) (refl, omega (arith, head-within l))
       (λ w. bells-rules-refuse bells (bellsAt l) (omega (arith, bells-within l (length bells) (within-true 1 mostBells (length bells) w .1))) [])
 
-  all-notes-refuse : (bells : List Bell) (notes : List Note) (n : ℕ) → n ≤ mostBells → Refuses l (allNotes l bells notes (noteCountAt l n))
-  unfolding allNotes within
-  all-notes-refuse bells notes n h =
+  all-notes-refuse : (shift : ℕ) (bells : List Bell) (notes : List Note) (n : ℕ) → n ≤ mostBells → Refuses l (allNotes l shift bells notes (noteCountAt l n))
+  unfolding allNotes isReadingRefusal
+  all-notes-refuse shift bells notes n h =
       require-refuses l (leb (length notes) (l .mostNotes)) tooManyNotes (noteCountAt l n) (refl, omega (arith, bells-within l n h))
-      (λ w. notes-rules-refuse bells notes (noteCountAt l n + l .countBytes) (notes-within l n (length notes) h (leb-true (length notes) (l .mostNotes) w)) [])
+      (λ w. notes-rules-refuse shift bells notes (noteCountAt l n + l .countBytes) (notes-within l n (length notes) h (leb-true (length notes) (l .mostNotes) w)) [])
 
   few-bells : (bells bs : List Bell) → allBells l bells ≡ ok bs → length bells ≤ mostBells
   unfolding allBells
   few-bells bells bs e = within-true 1 mostBells (length bells) (required (within 1 mostBells (length bells)) wrongBellCount (bellCountAt l) e .0) .1
 
   rules-by-refuse : (x : Phrase) → Refuses l (rulesBy l x)
-  unfolding rulesBy within
+  unfolding rulesBy isReadingRefusal
   rules-by-refuse x =
       require-refuses l (within 1 mostCores (x .cores)) wrongCores coresAt (refl, omega (arith, head-within l))
-      (λ c. then-refuses l (allBells l (x .bells)) (all-bells-refuse (x .bells))
-      (λ bs e. then-refuses l (allNotes l bs (x .notes) (noteCountAt l (length (x .bells)))) (all-notes-refuse bs (x .notes) (length (x .bells)) (few-bells (x .bells) bs e))
-      (λ ns f. value-refuses l (record { version = x .version; cores = x .cores; bells = bs; notes = ns }))))
+      (λ c. require-refuses l (isShift l (x .shift)) wrongShift shiftAt (refl, omega (arith, head-within l))
+      (λ t. then-refuses l (allBells l (x .bells)) (all-bells-refuse (x .bells))
+      (λ bs e. then-refuses l (allNotes l (x .shift) bs (x .notes) (noteCountAt l (length (x .bells)))) (all-notes-refuse (x .shift) bs (x .notes) (length (x .bells)) (few-bells (x .bells) bs e))
+      (λ ns f. value-refuses l (record { version = x .version; cores = x .cores; shift = x .shift; bells = bs; notes = ns })))))
 
   -- ---- the file
 
@@ -137,34 +149,34 @@ module _ (l : Layout) where
         then-refuses l (bellRecord l before at (drop at s)) (bell-refuses at (omega (arith, k)) before (drop at s))
         (λ b e. bells-refuse n (at + bellBytes l) (omega (arith, k)) (before ++ b ∷ []))
 
-    notes-refuse : (bells : List Bell) (n at : ℕ) → at + n * (1 + noteLength l mostListed) ≤ mostBytes l → (before : List Note)
-        → Refuses l (notesFrom l s bells n at before)
-    unfolding notesFrom within
-    notes-refuse bells zero at h before = require-refuses l (leb (length s) at) wrongEnd at (refl, omega arith) (λ e. value-refuses l before)
-    notes-refuse bells (suc n) at h before =
+    notes-refuse : (shift : ℕ) (bells : List Bell) (n at : ℕ) → at + n * (1 + noteLength l mostListed) ≤ mostBytes l → (before : List Note)
+        → Refuses l (notesFrom l s shift bells n at before)
+    unfolding notesFrom isReadingRefusal
+    notes-refuse shift bells zero at h before = require-refuses l (leb (length s) at) wrongEnd at (refl, omega arith) (λ e. value-refuses l before)
+    notes-refuse shift bells (suc n) at h before =
         let k = suc-mul n (1 + noteLength l mostListed) in
-        then-refuses l (noteRecord l bells (length before) at (drop at s)) (note-refuses at (omega (arith, k)) bells (length before) (drop at s))
+        then-refuses l (noteRecord l shift bells (length before) at (drop at s)) (note-refuses at (omega (arith, k)) shift bells (length before) (drop at s))
         (λ a e.
-        let size = record-size l bells (length before) at (drop at s) a e in
-        notes-refuse bells n (at + (1 + number 1 at s)) (omega (arith, k, size, number-drop 1 at s)) (before ++ a ∷ []))
+        let size = record-size l shift bells (length before) at (drop at s) a e in
+        notes-refuse shift bells n (at + (1 + number 1 at s)) (omega (arith, k, size, number-drop 1 at s)) (before ++ a ∷ []))
 
     bells-of-refuse : Refuses l (bellsIn l s)
-    unfolding bellsIn within
+    unfolding bellsIn isReadingRefusal
     bells-of-refuse =
         let n : ℕ = number 1 (bellCountAt l) s in
         require-refuses l (ltb (bellCountAt l) (length s)) wrongEnd (bellCountAt l) (refl, omega (arith, head-within l))
         (λ e. require-refuses l (within 1 mostBells n) wrongBellCount (bellCountAt l) (refl, omega (arith, head-within l))
         (λ w. bells-refuse n (bellsAt l) (omega (arith, bells-within l n (within-true 1 mostBells n w .1))) []))
 
-    notes-of-refuse : (bells : List Bell) (n : ℕ) → n ≤ mostBells → Refuses l (notesIn l s bells (noteCountAt l n))
-    unfolding notesIn within
-    notes-of-refuse bells n h =
+    notes-of-refuse : (shift : ℕ) (bells : List Bell) (n : ℕ) → n ≤ mostBells → Refuses l (notesIn l s shift bells (noteCountAt l n))
+    unfolding notesIn isReadingRefusal
+    notes-of-refuse shift bells n h =
         let at : ℕ = noteCountAt l n in
         let k : ℕ = number (l .countBytes) at s in
         let room : at ≤ mostBytes l = omega (arith, bells-within l n h) in
         require-refuses l (leb (at + l .countBytes) (length s)) wrongEnd at (refl, room)
         (λ e. require-refuses l (leb k (l .mostNotes)) tooManyNotes at (refl, room)
-        (λ w. notes-refuse bells k (at + l .countBytes) (notes-within l n k h (leb-true k (l .mostNotes) w)) []))
+        (λ w. notes-refuse shift bells k (at + l .countBytes) (notes-within l n k h (leb-true k (l .mostNotes) w)) []))
 
     bells-few : (bs : List Bell) → bellsIn l s ≡ ok bs → number 1 (bellCountAt l) s ≤ mostBells
     unfolding bellsIn
@@ -174,42 +186,36 @@ module _ (l : Layout) where
         within-true 1 mostBells n (required (within 1 mostBells n) wrongBellCount (bellCountAt l) (a .1) .0) .1
 
     reading-by-refuses : Refuses l (readingBy l s)
-    unfolding readingBy within
+    unfolding readingBy isReadingRefusal
     reading-by-refuses =
         let n : ℕ = number 1 (bellCountAt l) s in
         require-refuses l (leb uncountedBytes (length s) && eqb (number 4 byteCountAt s) (length s - uncountedBytes)) wrongCount 0 (refl, omega arith)
         (λ a. require-refuses l (ltb coresAt (length s)) wrongEnd coresAt (refl, omega (arith, head-within l))
         (λ b. require-refuses l (within 1 mostCores (number 1 coresAt s)) wrongCores coresAt (refl, omega (arith, head-within l))
-        (λ c. then-refuses l (bellsIn l s) bells-of-refuse
-        (λ bs e. then-refuses l (notesIn l s bs (noteCountAt l n)) (notes-of-refuse bs n (bells-few bs e))
-        (λ ns f. value-refuses l (record { version = number 1 0 s; cores = number 1 coresAt s; bells = bs; notes = ns }))))))
+        (λ c. require-refuses l (leb (shiftAt + l .shiftBytes) (length s)) wrongEnd shiftAt (refl, omega (arith, head-within l))
+        (λ d. require-refuses l (isShift l (shiftIn l s)) wrongShift shiftAt (refl, omega (arith, head-within l))
+        (λ t. then-refuses l (bellsIn l s) bells-of-refuse
+        (λ bs e. then-refuses l (notesIn l s (shiftIn l s) bs (noteCountAt l n)) (notes-of-refuse (shiftIn l s) bs n (bells-few bs e))
+        (λ ns f. value-refuses l (record { version = number 1 0 s; cores = number 1 coresAt s; shift = shiftIn l s; bells = bs; notes = ns }))))))))
 
 reading-refuses : (s : List ℕ) → Refuses (layout (number 1 0 s)) (reading s)
-unfolding reading within
+unfolding reading isReadingRefusal
 reading-refuses s =
     require-refuses (layout (number 1 0 s)) (leb (length s) 0 || isVersion (number 1 0 s)) wrongVersion 0 (refl, omega arith) (λ v. reading-by-refuses (layout (number 1 0 s)) s)
 
 rules-refuse : (x : Phrase) → Refuses (layout (x .version)) (rules x)
-unfolding rules within
+unfolding rules isReadingRefusal
 rules-refuse x =
     require-refuses (layout (x .version)) (isVersion (x .version)) wrongVersion 0 (refl, omega arith) (λ v. rules-by-refuse (layout (x .version)) x)
 
--- A refusal of reading has a number from 1 to 12, and a place in the longest file of the version, or at its end.
-pub refused-by : (s : List ℕ) (n at : ℕ) → reading s ≡ refused n at → (1 ≤ n) × (n ≤ wrongListed) × (at ≤ mostBytes (layout (number 1 0 s)))
-refused-by s n at e =
-    let (known, place) = reading-refuses s n at e in
-    let (low, high) = within-true wrongVersion wrongListed n known in
-    (low, high, place)
-
--- A refusal of reading has a number from 1 to 12, and a place in the longest file of any version, or at its end.
-pub refused-within : (s : List ℕ) (n at : ℕ) → reading s ≡ refused n at → (1 ≤ n) × (n ≤ wrongListed) × (at ≤ mostBytes first)
+-- A refusal of reading has a number from 1 to 12 or 19, and a place in the longest file of any version, or at its end.
+pub refused-within : (s : List ℕ) (n at : ℕ) → reading s ≡ refused n at → (isReadingRefusal n ≡ true) × (at ≤ longestFile)
 refused-within s n at e =
-    let r = refused-by s n at e in
-    (r .0, r .1, omega (arith, r .2, longest (number 1 0 s)))
+    let (known, place) = reading-refuses s n at e in
+    (known, omega (arith, place, longest (number 1 0 s)))
 
 -- So has a refusal of the rules, whatever the widths of the fields.
-pub rules-refused-within : (x : Phrase) (n at : ℕ) → rules x ≡ refused n at → (1 ≤ n) × (n ≤ wrongListed) × (at ≤ mostBytes first)
+pub rules-refused-within : (x : Phrase) (n at : ℕ) → rules x ≡ refused n at → (isReadingRefusal n ≡ true) × (at ≤ longestFile)
 rules-refused-within x n at e =
     let (known, place) = rules-refuse x n at e in
-    let (low, high) = within-true wrongVersion wrongListed n known in
-    (low, high, omega (arith, place, longest (x .version)))
+    (known, omega (arith, place, longest (x .version)))

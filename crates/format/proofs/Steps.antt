@@ -11,7 +11,7 @@ use Rattle.model.specs.Refusals.{wrongEnd, wrongBell, doubledKey, wrongNoteLeng
 use Rattle.format.specs.Bytes.{number}
 use Rattle.format.specs.Layout.{Layout, bellBytes, isNoteLength}
 use Rattle.format.specs.Outcome.{ok, refused}
-use Rattle.format.specs.Phrase.{Bell, Note, sounding, find}
+use Rattle.format.specs.Phrase.{Bell, Note, sounding, findSounding, find}
 use Rattle.format.specs.Rules.{bellInRange, bellRules, areTimes, rises, noteRules}
 use Rattle.format.specs.Reading.{bellIn, bellRecord, noteIn, noteRecord, bellsFrom, notesFrom}
 
@@ -25,35 +25,35 @@ module _ (l : Layout) (bs : List Bell) (at : ℕ) (b : Bell) where
 
   module _ (e : bellInRange b ≡ true) where
     -- A bell in range is refused where one before sounds for its key.
-    pub doubled : (k : ℕ) → find (sounding b) bs ≡ some k → bellRules bs at b ≡ refused doubledKey at
+    pub doubled : (k : ℕ) → findSounding (sounding b) bs ≡ some k → bellRules bs at b ≡ refused doubledKey at
     unfolding bellRules
     doubled k f = simp (e, f)
 
     -- A bell in range passes where none before sounds for its key.
-    pub whole : find (sounding b) bs ≡ none → bellRules bs at b ≡ ok b
+    pub whole : findSounding (sounding b) bs ≡ none → bellRules bs at b ≡ ok b
     unfolding bellRules
     whole f = simp (e, f)
 
-module _ (bs : List Bell) (own at : ℕ) (n : Note) where
+module _ (shift : ℕ) (bs : List Bell) (own at : ℕ) (n : Note) where
   -- A note is refused where no bell sounds for its key.
-  pub no-bell : find (n .key) bs ≡ none → noteRules bs own at n ≡ refused silentKey at
+  pub no-bell : find (n .key) shift bs ≡ none → noteRules shift bs own at n ≡ refused silentKey at
   unfolding noteRules
   no-bell e = simp e
 
-  module _ (bell : ℕ) (e : find (n .key) bs ≡ some bell) where
+  module _ (bell : ℕ) (e : find (n .key) shift bs ≡ some bell) where
     -- A note with a bell is refused for wrong times.
-    pub bad-times : areTimes (n .earliestRelease) (n .latestRelease) (n .deadline) ≡ false → noteRules bs own at n ≡ refused wrongTimes at
+    pub bad-times : areTimes (n .earliestRelease) (n .latestRelease) (n .deadline) ≡ false → noteRules shift bs own at n ≡ refused wrongTimes at
     unfolding noteRules
     bad-times f = simp (e, f)
 
     module _ (f : areTimes (n .earliestRelease) (n .latestRelease) (n .deadline) ≡ true) where
       -- A note with a bell and right times is refused for numbers that do not rise below its own.
-      pub bad-listed : rises own 0 (n .listed) ≡ false → noteRules bs own at n ≡ refused wrongListed at
+      pub bad-listed : rises own 0 (n .listed) ≡ false → noteRules shift bs own at n ≡ refused wrongListed at
       unfolding noteRules
       bad-listed g = simp (e, f, g)
 
       -- Any other note passes.
-      pub right : rises own 0 (n .listed) ≡ true → noteRules bs own at n ≡ ok n
+      pub right : rises own 0 (n .listed) ≡ true → noteRules shift bs own at n ≡ ok n
       unfolding noteRules
       right g = simp (e, f, g)
 
@@ -70,26 +70,26 @@ module _ (l : Layout) (bs : List Bell) (at : ℕ) (p : List ℕ) where
   unfolding bellRecord
   long h = simp (le-leb _ _ h)
 
-module _ (l : Layout) (bs : List Bell) (own at : ℕ) (p : List ℕ) where
+module _ (l : Layout) (shift : ℕ) (bs : List Bell) (own at : ℕ) (p : List ℕ) where
   -- A record without a length byte is no note.
-  pub no-length : length p < 1 → noteRecord l bs own at p ≡ refused wrongEnd at
+  pub no-length : length p < 1 → noteRecord l shift bs own at p ≡ refused wrongEnd at
   unfolding noteRecord
   no-length h = simp (lt-leb _ _ h)
 
   module _ (h : 1 ≤ length p) where
     -- A record with a wrong length is no note.
-    pub bad-length : isNoteLength l (number 1 0 p) ≡ false → noteRecord l bs own at p ≡ refused wrongNoteLength at
+    pub bad-length : isNoteLength l (number 1 0 p) ≡ false → noteRecord l shift bs own at p ≡ refused wrongNoteLength at
     unfolding noteRecord
     bad-length e = simp (le-leb _ _ h, e)
 
     module _ (e : isNoteLength l (number 1 0 p) ≡ true) where
       -- A record that ends too early is no note.
-      pub cut : length p ≤ number 1 0 p → noteRecord l bs own at p ≡ refused wrongEnd at
+      pub cut : length p ≤ number 1 0 p → noteRecord l shift bs own at p ≡ refused wrongEnd at
       unfolding noteRecord
       cut g = simp (le-leb _ _ h, e, le-ltb _ _ g)
 
       -- A record of a right length that is there is read by the rules of a note.
-      pub there : number 1 0 p < length p → noteRecord l bs own at p ≡ noteRules bs own at (noteIn l p)
+      pub there : number 1 0 p < length p → noteRecord l shift bs own at p ≡ noteRules shift bs own at (noteIn l p)
       unfolding noteRecord
       there g = simp (le-leb _ _ h, e, lt-ltb _ _ g)
 
@@ -109,14 +109,14 @@ module _ (l : Layout) (s : List ℕ) (n i at : ℕ) (bs : List Bell) (h : i < n)
   unfolding bellsFrom
   stop-bells r to e = rw left (simp e)
 
-  module _ (ns : List Note) where
+  module _ (shift : ℕ) (ns : List Note) where
     -- A note that is read is put after those before, and the next is read after its record.
-    pub more-notes : (a : Note) → noteRecord l bs (length ns) at (drop at s) ≡ ok a
-        → notesFrom l s bs (n - i) at ns ≡ notesFrom l s bs (n - (i + 1)) (at + (1 + number 1 at s)) (ns ++ a ∷ [])
+    pub more-notes : (a : Note) → noteRecord l shift bs (length ns) at (drop at s) ≡ ok a
+        → notesFrom l s shift bs (n - i) at ns ≡ notesFrom l s shift bs (n - (i + 1)) (at + (1 + number 1 at s)) (ns ++ a ∷ [])
     unfolding notesFrom
     more-notes a e = rw left (simp e)
 
     -- A note that is refused ends the reading of notes.
-    pub stop-notes : (r to : ℕ) → noteRecord l bs (length ns) at (drop at s) ≡ refused r to → notesFrom l s bs (n - i) at ns ≡ refused r to
+    pub stop-notes : (r to : ℕ) → noteRecord l shift bs (length ns) at (drop at s) ≡ refused r to → notesFrom l s shift bs (n - i) at ns ≡ refused r to
     unfolding notesFrom
     stop-notes r to e = rw left (simp e)

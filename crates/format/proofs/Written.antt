@@ -3,20 +3,19 @@ use Prim.Native.Nat.{ℕ, _+_, _-_, _*_, _≤_, _<_}
 use mathlib.Core.Path.{_≡_, refl, sym, ap, _∙_}
 use mathlib.Core.Bool.{Bool, true, false, _&&_, _||_}
 use mathlib.Core.List.{List, [], _∷_, _++_, append-assoc}
-use native.Mathlib.Nat.{suc-mul}
 use native.Mathlib.Omega.{arith}
 use lib.Dec.{leb, ltb, eqb}
 use lib.ListN.{length, getD, drop, length-append}
 use lib.Seq.{drop-at}
 use borrow.Author.Tests.{le-leb, lt-leb, lt-ltb, eq-eqb}
 use Rattle.model.specs.Limits.{mostCores}
-use Rattle.model.specs.Refusals.{wrongVersion, wrongCount, wrongEnd, wrongCores, wrongBellCount, tooManyNotes, wrongNoteLength}
+use Rattle.model.specs.Refusals.{wrongVersion, wrongCount, wrongEnd, wrongCores, wrongBellCount, tooManyNotes, wrongNoteLength, wrongShift}
 use Rattle.format.specs.Bytes.{number, digits, within, fieldsIn, fieldsFile, records}
-use Rattle.format.specs.Layout.{Layout, isVersion, layout, byteCountAt, uncountedBytes, coresAt, bellCountAt, bellsAt, bellBytes, noteCountAt, mostBells, mostListed, noteLength, headWidths}
+use Rattle.format.specs.Layout.{Layout, isVersion, layout, byteCountAt, uncountedBytes, coresAt, shiftAt, bellCountAt, bellsAt, bellBytes, noteCountAt, mostBells, mostListed, noteLength, headWidths}
 use Rattle.format.specs.Outcome.{Outcome, ok, _>>=_, _>>_, require}
 use Rattle.format.specs.Phrase.{Bell, Note, Phrase}
-use Rattle.format.specs.Rules.{bellRules, noteRules, bellsRules, notesRules, allBells, allNotes, rulesBy, rules}
-use Rattle.format.specs.Reading.{bellRecord, noteRecord, bellsFrom, notesFrom, bellsIn, notesIn, readingBy, reading}
+use Rattle.format.specs.Rules.{isShift, bellRules, noteRules, bellsRules, notesRules, allBells, allNotes, rulesBy, rules}
+use Rattle.format.specs.Reading.{shiftIn, bellRecord, noteRecord, bellsFrom, notesFrom, bellsIn, notesIn, readingBy, reading}
 use Rattle.format.specs.Writing.{bellFile, noteFile, body, headFields, writtenBy, written}
 use Rattle.format.specs.Fits.{All, FitsBy, Fits}
 use Rattle.format.specs.internal.Sized.{Sized}
@@ -46,9 +45,9 @@ module _ (l : Layout) where
       (λ c. ap (λ (t : List ℕ). bellsFrom l t (length bs) (at + bellBytes l) (bells ++ c ∷ [])) split
       ∙ bells-back bs (f .1) (before ++ bellFile l b) more (at + bellBytes l) next (bells ++ c ∷ []))
 
-  module _ (z : Sized l) (bells : List Bell) where
+  module _ (z : Sized l) (shift : ℕ) (bells : List Bell) where
     notes-back : (rest : List Note) → All (NoteFits l) rest → (before : List ℕ) (at : ℕ) → length before ≡ at → (notes : List Note)
-        → notesFrom l (before ++ records (noteFile l) rest) bells (length rest) at notes ≡ notesRules l bells rest at notes
+        → notesFrom l (before ++ records (noteFile l) rest) shift bells (length rest) at notes ≡ notesRules l shift bells rest at notes
     unfolding notesFrom notesRules records All
     notes-back [] f before at e notes =
         let end : length (before ++ []) ≤ at = omega (arith, length-append before []) in
@@ -60,18 +59,18 @@ module _ (l : Layout) where
         let here : drop at s ≡ noteFile l n ++ tail = drop-at before _ at e in
         let own : ℕ = length notes in
         let few : Bool = leb (length (n .listed)) mostListed in
-        let this : noteRecord l bells own at (drop at s) ≡ _>>_ (require few wrongNoteLength at) (noteRules bells own at n) =
-        ap (noteRecord l bells own at) here ∙ note-back l n (f .0) tail z bells own at in
+        let this : noteRecord l shift bells own at (drop at s) ≡ _>>_ (require few wrongNoteLength at) (noteRules shift bells own at n) =
+        ap (noteRecord l shift bells own at) here ∙ note-back l n (f .0) tail z shift bells own at in
         let size : number 1 at s ≡ noteLength l (length (n .listed)) = sym (number-drop 1 at s) ∙ ap (number 1 0) here ∙ note-first l n (f .0) tail in
         let to : ℕ = at + (1 + noteLength l (length (n .listed))) in
         let next : length (before ++ noteFile l n) ≡ to = omega (arith, length-append before (noteFile l n), note-size l n) in
-        let on : Note → Outcome (List Note) = λ c. notesFrom l s bells (length ns) to (notes ++ c ∷ []) in
-        ap (λ (k : ℕ). _>>=_ (noteRecord l bells own at (drop at s)) (λ c. notesFrom l s bells (length ns) (at + (1 + k)) (notes ++ c ∷ []))) size
+        let on : Note → Outcome (List Note) = λ c. notesFrom l s shift bells (length ns) to (notes ++ c ∷ []) in
+        ap (λ (k : ℕ). _>>=_ (noteRecord l shift bells own at (drop at s)) (λ c. notesFrom l s shift bells (length ns) (at + (1 + k)) (notes ++ c ∷ []))) size
         ∙ ap (λ (o : Outcome Note). _>>=_ o on) this
-        ∙ shunt few (noteRules bells own at n) on
+        ∙ shunt few (noteRules shift bells own at n) on
         ∙ ap (λ (o : Outcome (List Note)). _>>_ (require few wrongNoteLength at) o)
-        (same-then (noteRules bells own at n) _ _
-        (λ c. ap (λ (t : List ℕ). notesFrom l t bells (length ns) to (notes ++ c ∷ [])) split
+        (same-then (noteRules shift bells own at n) _ _
+        (λ c. ap (λ (t : List ℕ). notesFrom l t shift bells (length ns) to (notes ++ c ∷ [])) split
         ∙ notes-back ns (f .1) (before ++ noteFile l n) to next (notes ++ c ∷ [])))
       where
         shunt : (t : Bool) (o : Outcome Note) (k : Note → Outcome (List Note))
@@ -127,7 +126,7 @@ module _ (l : Layout) (z : Sized l) (x : Phrase) (f : FitsBy l x) where
   unfolding fieldsIn
   version-read = field 0
 
-  count-read : number 4 byteCountAt file ≡ 1 + 1 + length (body l x)
+  count-read : number 4 byteCountAt file ≡ 1 + l .shiftBytes + 1 + length (body l x)
   unfolding fieldsIn
   count-read = field 1
 
@@ -135,9 +134,13 @@ module _ (l : Layout) (z : Sized l) (x : Phrase) (f : FitsBy l x) where
   unfolding fieldsIn
   cores-read = field 2
 
+  shift-read : shiftIn l file ≡ x .shift
+  unfolding fieldsIn
+  shift-read = field 3
+
   bell-count-read : number 1 (bellCountAt l) file ≡ length (x .bells)
   unfolding fieldsIn
-  bell-count-read = field 3
+  bell-count-read = field 4
 
   bells-read : bellsIn l file ≡ allBells l (x .bells)
   unfolding bellsIn allBells
@@ -148,10 +151,10 @@ module _ (l : Layout) (z : Sized l) (x : Phrase) (f : FitsBy l x) where
       ∙ ap (λ (o : Outcome (List Bell)). _>>_ (require (within 1 mostBells (length (x .bells))) wrongBellCount at) o)
       (ap (λ (s : List ℕ). bellsFrom l s (length (x .bells)) (bellsAt l) []) parted ∙ bells-back l (x .bells) (f .bells) head after (bellsAt l) head-length [])
 
-  notes-read : (bells : List Bell)
-      → notesIn l file bells (noteCountAt l (length (x .bells))) ≡ allNotes l bells (x .notes) (noteCountAt l (length (x .bells)))
+  notes-read : (shift : ℕ) (bells : List Bell)
+      → notesIn l file shift bells (noteCountAt l (length (x .bells))) ≡ allNotes l shift bells (x .notes) (noteCountAt l (length (x .bells)))
   unfolding notesIn allNotes after
-  notes-read bells =
+  notes-read shift bells =
       let w : ℕ = l .countBytes in
       let k : ℕ = length (x .notes) in
       let at : ℕ = noteCountAt l (length (x .bells)) in
@@ -163,25 +166,29 @@ module _ (l : Layout) (z : Sized l) (x : Phrase) (f : FitsBy l x) where
       let count : number w at file ≡ k = ap (number w at) one ∙ number-digits w k (f .count) front notes at size in
       let next : length (front ++ digits w k) ≡ at + w = omega (arith, length-append front (digits w k), digits-length w k, size) in
       passed (leb (at + w) (length file)) wrongEnd at _ (le-leb (at + w) (length file) (omega (arith, file-length, body-length, after-length)))
-      ∙ ap (λ (n : ℕ). _>>_ (require (leb n (l .mostNotes)) tooManyNotes at) (notesFrom l file bells n (at + w) [])) count
+      ∙ ap (λ (n : ℕ). _>>_ (require (leb n (l .mostNotes)) tooManyNotes at) (notesFrom l file shift bells n (at + w) [])) count
       ∙ ap (λ (o : Outcome (List Note)). _>>_ (require (leb k (l .mostNotes)) tooManyNotes at) o)
-      (ap (λ (s : List ℕ). notesFrom l s bells k (at + w) []) two ∙ notes-back l z bells (x .notes) (f .notes) (front ++ digits w k) (at + w) next [])
+      (ap (λ (s : List ℕ). notesFrom l s shift bells k (at + w) []) two ∙ notes-back l z shift bells (x .notes) (f .notes) (front ++ digits w k) (at + w) next [])
 
   read-by : readingBy l (writtenBy l x) ≡ rulesBy l x
   unfolding readingBy rulesBy file
   read-by =
       let size : ℕ = length file in
-      let long : 7 ≤ size = omega (arith, file-length) in
+      let long : bellsAt l ≤ size = omega (arith, file-length) in
       let count = eq-eqb (number 4 byteCountAt file) (size - uncountedBytes) (omega (arith, count-read, file-length)) in
       let whole : leb uncountedBytes size && eqb (number 4 byteCountAt file) (size - uncountedBytes) ≡ true = simp (le-leb uncountedBytes size (omega arith), count) in
-      let made : ℕ → ℕ → List Bell → List Note → Phrase = λ v c bs ns. record { version = v; cores = c; bells = bs; notes = ns } in
-      let last : ℕ → ℕ → ℕ → Outcome (List Bell) → Outcome Phrase = λ v c n o. _>>=_ o (λ bs. _>>=_ (notesIn l file bs (noteCountAt l n)) (λ ns. ok (made v c bs ns))) in
-      let heads : ℕ → ℕ → ℕ → Outcome (List Bell) → Outcome Phrase = λ v c n o. _>>_ (require (within 1 mostCores c) wrongCores coresAt) (last v c n o) in
+      let made : ℕ → ℕ → ℕ → List Bell → List Note → Phrase = λ v c t bs ns. record { version = v; cores = c; shift = t; bells = bs; notes = ns } in
+      let last : ℕ → ℕ → ℕ → ℕ → Outcome (List Bell) → Outcome Phrase = λ v c t n o. _>>=_ o (λ bs. _>>=_ (notesIn l file t bs (noteCountAt l n)) (λ ns. ok (made v c t bs ns))) in
+      let shifted : ℕ → Outcome Phrase → Outcome Phrase = λ t o. _>>_ (require (isShift l t) wrongShift shiftAt) o in
+      let heads : ℕ → ℕ → ℕ → ℕ → Outcome (List Bell) → Outcome Phrase = λ v c t n o. _>>_ (require (within 1 mostCores c) wrongCores coresAt) (shifted t (last v c t n o)) in
       passed (leb uncountedBytes size && eqb (number 4 byteCountAt file) (size - uncountedBytes)) wrongCount 0 _ whole
       ∙ passed (ltb coresAt size) wrongEnd coresAt _ (lt-ltb coresAt size (omega arith))
-      ∙ (λ i. heads (version-read i) (cores-read i) (bell-count-read i) (bells-read i))
-      ∙ ap (λ (o : Outcome Phrase). _>>_ (require (within 1 mostCores (x .cores)) wrongCores coresAt) o)
-      (same-then (allBells l (x .bells)) _ _ (λ bs. ap (λ (o : Outcome (List Note)). _>>=_ o (λ ns. ok (made (x .version) (x .cores) bs ns))) (notes-read bs)))
+      ∙ ap (λ (o : Outcome Phrase). _>>_ (require (within 1 mostCores (number 1 coresAt file)) wrongCores coresAt) o)
+      (passed (leb (shiftAt + l .shiftBytes) size) wrongEnd shiftAt _ (le-leb (shiftAt + l .shiftBytes) size (omega arith)))
+      ∙ (λ i. heads (version-read i) (cores-read i) (shift-read i) (bell-count-read i) (bells-read i))
+      ∙ ap (λ (o : Outcome Phrase). _>>_ (require (within 1 mostCores (x .cores)) wrongCores coresAt) (shifted (x .shift) o))
+      (same-then (allBells l (x .bells)) _ _
+      (λ bs. ap (λ (o : Outcome (List Note)). _>>=_ o (λ ns. ok (made (x .version) (x .cores) (x .shift) bs ns))) (notes-read (x .shift) bs)))
 
 -- Reading the file of a phrase whose fields fit is asking its rules.
 pub read-written : (x : Phrase) → Fits x → reading (written x) ≡ rules x

@@ -7,18 +7,24 @@ use lib.ListN.{length, getD, replicate}
 use Rattle.model.specs.Limits.{mostJobs}
 use Rattle.format.specs.Bytes.{within}
 
--- The widths of the number of notes (K) and of a number that a note lists; and the most notes.
+-- The widths of the shift, of the number of notes (K) and of a number that a note lists; and the most notes. A field of width 0 is not in the file: it is
+-- read as 0, and only 0 fits it.
 pub record Layout : Type 0 where
+  pub shiftBytes : ℕ
   pub countBytes : ℕ
   pub listedBytes : ℕ
   pub mostNotes : ℕ
 
 abbrev pub first : Layout
-first = record { countBytes = 1; listedBytes = 1; mostNotes = mostJobs }
+first = record { shiftBytes = 0; countBytes = 1; listedBytes = 1; mostNotes = mostJobs }
 
--- There is one version.
+-- with a shift
+abbrev pub second : Layout
+second = record { shiftBytes = 1; countBytes = 1; listedBytes = 1; mostNotes = mostJobs }
+
+-- Versions 1 and 2.
 abbrev pub versions : List Layout
-versions = first ∷ []
+versions = first ∷ second ∷ []
 
 unfoldable pub isVersion : ℕ → Bool
 unfolding within
@@ -28,10 +34,10 @@ isVersion v = within 1 (length versions) v
 unfoldable pub layout : ℕ → Layout
 layout v = getD versions (v - 1) first
 
--- ---- the header: version, count of all bytes after the count, cores (m), number of bells
+-- ---- the header: version, count of all bytes after the count, cores (m), shift, number of bells
 
 abbrev pub headWidths : Layout → List ℕ
-headWidths l = 1 ∷ 4 ∷ 1 ∷ 1 ∷ []
+headWidths l = 1 ∷ 4 ∷ 1 ∷ l .shiftBytes ∷ 1 ∷ []
 
 abbrev pub byteCountAt : ℕ
 byteCountAt = 1
@@ -43,11 +49,14 @@ uncountedBytes = 5
 abbrev pub coresAt : ℕ
 coresAt = 5
 
+abbrev pub shiftAt : ℕ
+shiftAt = 6
+
 abbrev pub bellCountAt : Layout → ℕ
-bellCountAt l = 6
+bellCountAt l = shiftAt + l .shiftBytes
 
 abbrev pub bellsAt : Layout → ℕ
-bellsAt l = 7
+bellsAt l = shiftAt + l .shiftBytes + 1
 
 -- ---- a bell: key written (N), transposition (T), least and most execution (ca, cb), priority (p)
 
@@ -89,7 +98,11 @@ unfoldable pub isNoteLength : Layout → ℕ → Bool
 unfolding noteLength listedCount
 isNoteLength l n = leb (listedCount l n) mostListed && eqb (noteLength l (listedCount l n)) n
 
--- no phrase has a longer file: the most bells, the number of notes, and the most notes, each with the most numbers listed
+-- no phrase of the version has a longer file: the most bells, the number of notes, and the most notes, each with the most numbers listed
 unfoldable pub mostBytes : Layout → ℕ
 unfolding noteLength
 mostBytes l = noteCountAt l mostBells + l .countBytes + l .mostNotes * (1 + noteLength l mostListed)
+
+-- no phrase of any version has a longer file
+abbrev pub longestFile : ℕ
+longestFile = 1833

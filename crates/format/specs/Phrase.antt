@@ -22,17 +22,19 @@ pub record Note : Type 0 where
   pub deadline : ℕ
   pub listed : List ℕ
 
+-- The shift is a signed byte as well; it moves the key of every note. 0 in a version without it.
 pub record Phrase : Type 0 where
   pub version : ℕ
   pub cores : ℕ
+  pub shift : ℕ
   pub bells : List Bell
   pub notes : List Note
 
--- A key and a transposition as a signed byte: N + T. (A sum below zero is 0 here, which is no key of a bell.)
+-- A key and a transposition or a shift as a signed byte: their sum. (A sum below zero is 0 here, which is no key of a bell.)
 abbrev pub transposed : ℕ → ℕ → ℕ
 transposed written t = cond (ltb t 128) (written + t) (written + t - 256)
 
--- The key that a bell sounds for.
+-- The key that a bell sounds for (N + T).
 unfoldable pub sounding : Bell → ℕ
 sounding b = transposed (b .written) (b .transposition)
 
@@ -42,8 +44,12 @@ unfolding sounding
 findFrom key i [] = none
 findFrom key i (b ∷ bs) = cond (eqb (sounding b) key) (some i) (findFrom key (i + 1) bs)
 
-abbrev pub find : ℕ → List Bell → Option ℕ
-find key = findFrom key 0
+abbrev pub findSounding : ℕ → List Bell → Option ℕ
+findSounding key = findFrom key 0
+
+-- The look-up of a bell by a note's key as written, and the shift.
+abbrev pub find : ℕ → ℕ → List Bell → Option ℕ
+find key shift = findSounding (transposed key shift)
 
 abbrev pub isNone : Option ℕ → Bool
 isNone none = true

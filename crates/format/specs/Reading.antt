@@ -5,12 +5,12 @@ use mathlib.Core.List.{List, [], _∷_, _++_}
 use lib.Dec.{ltb, leb, eqb}
 use lib.ListN.{length, getD, drop}
 use Rattle.model.specs.Limits.{mostCores}
-use Rattle.model.specs.Refusals.{wrongVersion, wrongCount, wrongEnd, wrongCores, wrongBellCount, tooManyNotes, wrongNoteLength}
+use Rattle.model.specs.Refusals.{wrongVersion, wrongCount, wrongEnd, wrongCores, wrongBellCount, tooManyNotes, wrongNoteLength, wrongShift}
 use Rattle.format.specs.Bytes.{number, within, fieldsIn}
-use Rattle.format.specs.Layout.{Layout, isVersion, layout, byteCountAt, uncountedBytes, coresAt, bellCountAt, bellsAt, bellWidths, bellBytes, mostBells, noteCountAt, noteWidths, listedCount, isNoteLength}
+use Rattle.format.specs.Layout.{Layout, isVersion, layout, byteCountAt, uncountedBytes, coresAt, shiftAt, bellCountAt, bellsAt, bellWidths, bellBytes, mostBells, noteCountAt, noteWidths, listedCount, isNoteLength}
 use Rattle.format.specs.Outcome.{Outcome, ok, _>>=_, _>>_, require}
 use Rattle.format.specs.Phrase.{Bell, Note, Phrase}
-use Rattle.format.specs.Rules.{bellRules, noteRules}
+use Rattle.format.specs.Rules.{isShift, bellRules, noteRules}
 
 -- ---- records, read from the part of the file that begins at them: the fields first, then their rules
 
@@ -55,14 +55,14 @@ unfoldable pub noteIn : Layout → List ℕ → Note
 unfolding listedCount fieldsIn
 noteIn l p = noteOf (fieldsIn (noteWidths l (listedBy l p)) 0 p)
 
--- the bells are given, the note's own number, and its place
-unfoldable pub noteRecord : Layout → List Bell → ℕ → ℕ → List ℕ → Outcome Note
+-- the shift and the bells are given, the note's own number, and its place
+unfoldable pub noteRecord : Layout → ℕ → List Bell → ℕ → ℕ → List ℕ → Outcome Note
 unfolding number isNoteLength noteIn noteRules
-noteRecord l bells own at p = do
+noteRecord l shift bells own at p = do
   require (leb 1 (length p)) wrongEnd at
   require (isNoteLength l (number 1 0 p)) wrongNoteLength at
   require (ltb (number 1 0 p) (length p)) wrongEnd at
-  noteRules bells own at (noteIn l p)
+  noteRules shift bells own at (noteIn l p)
 
 -- ---- the file
 
@@ -75,14 +75,18 @@ bellsFrom l s (suc n) at before = do
   bellsFrom l s n (at + bellBytes l) (before ++ b ∷ [])
 
 -- n more notes, from a place on, after those before; then the file ends
-unfoldable pub notesFrom : Layout → List ℕ → List Bell → ℕ → ℕ → List Note → Outcome (List Note)
+unfoldable pub notesFrom : Layout → List ℕ → ℕ → List Bell → ℕ → ℕ → List Note → Outcome (List Note)
 unfolding number noteRecord
-notesFrom l s bells zero at before = do
+notesFrom l s shift bells zero at before = do
   require (leb (length s) at) wrongEnd at
   ok before
-notesFrom l s bells (suc n) at before = do
-  note ← noteRecord l bells (length before) at (drop at s)
-  notesFrom l s bells n (at + (1 + number 1 at s)) (before ++ note ∷ [])
+notesFrom l s shift bells (suc n) at before = do
+  note ← noteRecord l shift bells (length before) at (drop at s)
+  notesFrom l s shift bells n (at + (1 + number 1 at s)) (before ++ note ∷ [])
+
+-- the shift of a file: 0 where the version has none
+abbrev pub shiftIn : Layout → List ℕ → ℕ
+shiftIn l s = number (l .shiftBytes) shiftAt s
 
 unfoldable pub bellsIn : Layout → List ℕ → Outcome (List Bell)
 unfolding number within bellsFrom
@@ -92,22 +96,24 @@ bellsIn l s = do
   bellsFrom l s (number 1 (bellCountAt l) s) (bellsAt l) []
 
 -- the place of the number of notes is given
-unfoldable pub notesIn : Layout → List ℕ → List Bell → ℕ → Outcome (List Note)
+unfoldable pub notesIn : Layout → List ℕ → ℕ → List Bell → ℕ → Outcome (List Note)
 unfolding number notesFrom
-notesIn l s bells at = do
+notesIn l s shift bells at = do
   require (leb (at + l .countBytes) (length s)) wrongEnd at
   require (leb (number (l .countBytes) at s) (l .mostNotes)) tooManyNotes at
-  notesFrom l s bells (number (l .countBytes) at s) (at + l .countBytes) []
+  notesFrom l s shift bells (number (l .countBytes) at s) (at + l .countBytes) []
 
 unfoldable pub readingBy : Layout → List ℕ → Outcome Phrase
-unfolding number within bellsIn notesIn
+unfolding number within isShift bellsIn notesIn
 readingBy l s = do
   require (leb uncountedBytes (length s) && eqb (number 4 byteCountAt s) (length s - uncountedBytes)) wrongCount 0
   require (ltb coresAt (length s)) wrongEnd coresAt
   require (within 1 mostCores (number 1 coresAt s)) wrongCores coresAt
+  require (leb (shiftAt + l .shiftBytes) (length s)) wrongEnd shiftAt
+  require (isShift l (shiftIn l s)) wrongShift shiftAt
   bells ← bellsIn l s
-  notes ← notesIn l s bells (noteCountAt l (number 1 (bellCountAt l) s))
-  ok (record { version = number 1 0 s; cores = number 1 coresAt s; bells = bells; notes = notes })
+  notes ← notesIn l s (shiftIn l s) bells (noteCountAt l (number 1 (bellCountAt l) s))
+  ok (record { version = number 1 0 s; cores = number 1 coresAt s; shift = shiftIn l s; bells = bells; notes = notes })
 
 -- Checks run 1, 2, then file order.
 unfoldable pub reading : List ℕ → Outcome Phrase

@@ -5,11 +5,11 @@ use mathlib.Core.List.{List, [], _∷_, _++_}
 use lib.Dec.{leb, ltb}
 use lib.ListN.{length}
 use Rattle.model.specs.Limits.{mostCores, longestExecution, latestTime}
-use Rattle.model.specs.Refusals.{wrongVersion, wrongCores, wrongBellCount, wrongBell, doubledKey, tooManyNotes, wrongNoteLength, silentKey, wrongTimes, wrongListed}
+use Rattle.model.specs.Refusals.{wrongVersion, wrongCores, wrongBellCount, wrongBell, doubledKey, tooManyNotes, wrongNoteLength, silentKey, wrongTimes, wrongListed, wrongShift}
 use Rattle.format.specs.Bytes.{fits, within}
-use Rattle.format.specs.Layout.{Layout, isVersion, layout, coresAt, bellCountAt, bellsAt, bellBytes, noteCountAt, mostBells, mostListed, noteLength}
+use Rattle.format.specs.Layout.{Layout, isVersion, layout, coresAt, shiftAt, bellCountAt, bellsAt, bellBytes, noteCountAt, mostBells, mostListed, noteLength}
 use Rattle.format.specs.Outcome.{Outcome, ok, _>>=_, _>>_, require}
-use Rattle.format.specs.Phrase.{Bell, Note, Phrase, sounding, findFrom, find, isNone, isSome}
+use Rattle.format.specs.Phrase.{Bell, Note, Phrase, sounding, findFrom, findSounding, find, isNone, isSome}
 
 abbrev pub lowestKey : ℕ
 lowestKey = 12
@@ -20,12 +20,19 @@ highestKey = 119
 abbrev pub mostTransposed : ℕ
 mostTransposed = 24
 
--- ---- a bell
+-- ---- semitones
 
 -- -24 to 24, as a signed byte
 unfoldable pub isTransposition : ℕ → Bool
 unfolding within
 isTransposition t = leb t mostTransposed || within (256 - mostTransposed) 255 t
+
+-- the shift of a phrase: 0 where the version has none
+unfoldable pub isShift : Layout → ℕ → Bool
+unfolding isTransposition
+isShift l t = isTransposition t && fits (l .shiftBytes) t
+
+-- ---- a bell
 
 unfoldable pub isExecutionRange : ℕ → ℕ → Bool
 isExecutionRange least most = leb 1 least && (leb least most && leb most longestExecution)
@@ -43,7 +50,7 @@ unfoldable pub bellRules : List Bell → ℕ → Bell → Outcome Bell
 unfolding bellInRange findFrom
 bellRules before at b = do
   require (bellInRange b) wrongBell at
-  require (isNone (find (sounding b) before)) doubledKey at
+  require (isNone (findSounding (sounding b) before)) doubledKey at
   ok b
 
 -- ---- a note
@@ -57,11 +64,11 @@ unfoldable pub rises : ℕ → ℕ → List ℕ → Bool
 rises own low [] = true
 rises own low (w ∷ ws) = leb low w && (ltb w own && rises own (w + 1) ws)
 
--- a note at its place, with its own number
-unfoldable pub noteRules : List Bell → ℕ → ℕ → Note → Outcome Note
+-- a note at its place, with its own number, under a shift
+unfoldable pub noteRules : ℕ → List Bell → ℕ → ℕ → Note → Outcome Note
 unfolding findFrom areTimes rises
-noteRules bells own at n = do
-  require (isSome (find (n .key) bells)) silentKey at
+noteRules shift bells own at n = do
+  require (isSome (find (n .key) shift bells)) silentKey at
   require (areTimes (n .earliestRelease) (n .latestRelease) (n .deadline)) wrongTimes at
   require (rises own 0 (n .listed)) wrongListed at
   ok n
@@ -77,13 +84,13 @@ bellsRules l (b ∷ bs) at before = do
   bellsRules l bs (at + bellBytes l) (before ++ c ∷ [])
 
 -- these notes, from a place on, after those before
-unfoldable pub notesRules : Layout → List Bell → List Note → ℕ → List Note → Outcome (List Note)
+unfoldable pub notesRules : Layout → ℕ → List Bell → List Note → ℕ → List Note → Outcome (List Note)
 unfolding noteRules noteLength
-notesRules l bells [] at before = ok before
-notesRules l bells (n ∷ ns) at before = do
+notesRules l shift bells [] at before = ok before
+notesRules l shift bells (n ∷ ns) at before = do
   require (leb (length (n .listed)) mostListed) wrongNoteLength at
-  c ← noteRules bells (length before) at n
-  notesRules l bells ns (at + (1 + noteLength l (length (n .listed)))) (before ++ c ∷ [])
+  c ← noteRules shift bells (length before) at n
+  notesRules l shift bells ns (at + (1 + noteLength l (length (n .listed)))) (before ++ c ∷ [])
 
 unfoldable pub allBells : Layout → List Bell → Outcome (List Bell)
 unfolding within bellsRules
@@ -92,19 +99,20 @@ allBells l bells = do
   bellsRules l bells (bellsAt l) []
 
 -- from the place of their number on
-unfoldable pub allNotes : Layout → List Bell → List Note → ℕ → Outcome (List Note)
+unfoldable pub allNotes : Layout → ℕ → List Bell → List Note → ℕ → Outcome (List Note)
 unfolding notesRules
-allNotes l bells notes at = do
+allNotes l shift bells notes at = do
   require (leb (length notes) (l .mostNotes)) tooManyNotes at
-  notesRules l bells notes (at + l .countBytes) []
+  notesRules l shift bells notes (at + l .countBytes) []
 
 unfoldable pub rulesBy : Layout → Phrase → Outcome Phrase
-unfolding within allBells allNotes
+unfolding within isShift allBells allNotes
 rulesBy l x = do
   require (within 1 mostCores (x .cores)) wrongCores coresAt
+  require (isShift l (x .shift)) wrongShift shiftAt
   bells ← allBells l (x .bells)
-  notes ← allNotes l bells (x .notes) (noteCountAt l (length (x .bells)))
-  ok (record { version = x .version; cores = x .cores; bells = bells; notes = notes })
+  notes ← allNotes l (x .shift) bells (x .notes) (noteCountAt l (length (x .bells)))
+  ok (record { version = x .version; cores = x .cores; shift = x .shift; bells = bells; notes = notes })
 
 unfoldable pub rules : Phrase → Outcome Phrase
 unfolding isVersion layout rulesBy

@@ -7,8 +7,8 @@ use mathlib.Core.Option.{none}
 use lib.ListN.{length}
 use Rattle.model.specs.Limits.{mostCores}
 use Rattle.format.specs.Layout.{Layout, isVersion, layout, mostBells, mostListed}
-use Rattle.format.specs.Phrase.{Bell, sounding, Note, Phrase, find, isSome}
-use Rattle.format.specs.Rules.{bellInRange, areTimes, rises}
+use Rattle.format.specs.Phrase.{Bell, sounding, Note, Phrase, findSounding, find, isSome}
+use Rattle.format.specs.Rules.{isShift, bellInRange, areTimes, rises}
 
 -- every element of a list has the property, which may speak of the elements before it; the first has `before` before it
 unfoldable pub Each : {A : Type 0} → (List A → A → Type 0) → List A → List A → Type 0
@@ -18,21 +18,22 @@ Each P before (x ∷ xs) = P before x × Each P (before ++ x ∷ []) xs
 -- A bell after those before it: its fields are in range, and no bell before sounds for its key.
 pub record ValidBell (before : List Bell) (b : Bell) : Type 0 where
   pub inRange : bellInRange b ≡ true
-  pub alone : find (sounding b) before ≡ none
+  pub alone : findSounding (sounding b) before ≡ none
 
--- A note after those before it: a bell sounds for its key, its times are right, and it lists at most four numbers, strictly rising, below its own.
-pub record ValidNote (bells : List Bell) (before : List Note) (n : Note) : Type 0 where
-  pub sounds : isSome (find (n .key) bells) ≡ true
+-- A note after those before it, under a shift: a bell sounds for its key so moved, its times are right, and it lists at most four numbers, strictly rising, below its own.
+pub record ValidNote (shift : ℕ) (bells : List Bell) (before : List Note) (n : Note) : Type 0 where
+  pub sounds : isSome (find (n .key) shift bells) ≡ true
   pub times : areTimes (n .earliestRelease) (n .latestRelease) (n .deadline) ≡ true
   pub few : length (n .listed) ≤ mostListed
   pub rising : rises (length before) 0 (n .listed) ≡ true
 
 pub record ValidBy (l : Layout) (x : Phrase) : Type 0 where
   pub cores : (1 ≤ x .cores) × (x .cores ≤ mostCores)
+  pub shift : isShift l (x .shift) ≡ true
   pub bellCount : (1 ≤ length (x .bells)) × (length (x .bells) ≤ mostBells)
   pub bells : Each ValidBell [] (x .bells)
   pub noteCount : length (x .notes) ≤ l .mostNotes
-  pub notes : Each (ValidNote (x .bells)) [] (x .notes)
+  pub notes : Each (ValidNote (x .shift) (x .bells)) [] (x .notes)
 
 -- A phrase that a file may hold.
 pub record Valid (x : Phrase) : Type 0 where

@@ -29,9 +29,9 @@ unfoldable pub body : Layout → Phrase → List ℕ
 unfolding digits records bellFile noteFile
 body l x = records (bellFile l) (x .bells) ++ (digits (l .countBytes) (length (x .notes)) ++ records (noteFile l) (x .notes))
 
--- the count counts the cores, the number of bells, and the body
+-- the count counts the cores, the shift, the number of bells, and the body
 abbrev pub headFields : Layout → Phrase → List ℕ
-headFields l x = x .version ∷ (1 + 1 + length (body l x)) ∷ x .cores ∷ length (x .bells) ∷ []
+headFields l x = x .version ∷ (1 + l .shiftBytes + 1 + length (body l x)) ∷ x .cores ∷ x .shift ∷ length (x .bells) ∷ []
 
 unfoldable pub writtenBy : Layout → Phrase → List ℕ
 unfolding fieldsFile body

@@ -182,7 +182,7 @@ module _ (js : List Job) (few : (i : ℕ) → i < length js → length (predeces
 
 -- A phrase has a job for each note.
 pub jobs-length : (x : Phrase) → length (jobsOf x) ≡ length (x .notes)
-jobs-length x = length-map (x .notes) (jobOf (x .bells))
+jobs-length x = length-map (x .notes) (jobOf (x .shift) (x .bells))
 
 -- The times of the jobs are in their ranges.
 pub timed : (x : Phrase) → Analysable x → TimedUpTo latestTime (jobsOf x)

@@ -96,7 +96,7 @@ module _ (t : List ℕ) (handed : HandedOn t) where
   held = ap (λ (s : List ℕ). jobsOf (phraseOf s)) (handed .is) ∙ ap jobsOf (phrase-of (handed .phrase) (handed .valid))
 
   held-length : length (jobsHeld t) ≡ length (handed .phrase .notes)
-  held-length = ap length held ∙ length-map (handed .phrase .notes) (jobOf (handed .phrase .bells))
+  held-length = ap length held ∙ length-map (handed .phrase .notes) (jobOf (handed .phrase .shift) (handed .phrase .bells))
 
   -- The table has rows for its jobs.
   pub few-jobs : length (jobsHeld t) ≤ mostJobs
@@ -115,18 +115,18 @@ module _ (t : List ℕ) (handed : HandedOn t) where
     own = note (handed .phrase) i
 
     abbrev bell : Bell
-    bell = getD (handed .phrase .bells) (struck (handed .phrase .bells) own) noBell
+    bell = getD (handed .phrase .bells) (struck (handed .phrase .shift) (handed .phrase .bells) own) noBell
 
     inside : i < length (handed .phrase .notes)
     inside = omega (arith, held-length, b)
 
-    is-job : job (jobsHeld t) i ≡ jobOf (handed .phrase .bells) own
-    is-job = ap (λ (js : List Job). job js i) held ∙ getD-map (jobOf (handed .phrase .bells)) (handed .phrase .notes) i noNote noJob inside
+    is-job : job (jobsHeld t) i ≡ jobOf (handed .phrase .shift) (handed .phrase .bells) own
+    is-job = ap (λ (js : List Job). job js i) held ∙ getD-map (jobOf (handed .phrase .shift) (handed .phrase .bells)) (handed .phrase .notes) i noNote noJob inside
 
     few : length (own .listed) ≤ mostListed
     few = few-listed (handed .phrase) (handed .valid) i inside
 
-    in-note : (at : ℕ) → at < noteWords → getD t (noteRowsAt + (i * noteWords + at)) 0 ≡ getD (noteRow (handed .phrase .bells) own) at 0
+    in-note : (at : ℕ) → at < noteWords → getD t (noteRowsAt + (i * noteWords + at)) 0 ≡ getD (noteRow (handed .phrase .shift) (handed .phrase .bells) own) at 0
     in-note at g =
         ap (λ (s : List ℕ). getD s (noteRowsAt + (i * noteWords + at)) 0) (handed .is) ∙ note-word (handed .phrase) (handed .valid) i at inside g
 
@@ -155,7 +155,7 @@ module _ (t : List ℕ) (handed : HandedOn t) where
     unfolding noteRowOn
     listed-word j g =
         in-note (listedWord + j) (omega (arith, g))
-        ∙ sym (getD-drop listedWord (noteRow (handed .phrase .bells) own) j 0)
+        ∙ sym (getD-drop listedWord (noteRow (handed .phrase .shift) (handed .phrase .bells) own) j 0)
         ∙ List·getD-append (padded mostListed (own .listed)) _ 0 j (omega (arith, g, padded-length mostListed (own .listed) few))
         ∙ padded-word (own .listed) (mostListed - length (own .listed)) j
         ∙ ap (λ (k : Job). getD (k .listed) j 0) (sym is-job)
@@ -165,7 +165,7 @@ module _ (t : List ℕ) (handed : HandedOn t) where
     unfolding noteRowOn
     struck-word =
         in-note struckWord (omega arith)
-        ∙ getD-at (padded mostListed (own .listed)) (struck (handed .phrase .bells) own) [] 0 mostListed (padded-length mostListed (own .listed) few)
+        ∙ getD-at (padded mostListed (own .listed)) (struck (handed .phrase .shift) (handed .phrase .bells) own) [] 0 mostListed (padded-length mostListed (own .listed) few)
         ∙ ap (λ (j : Job). j .bell) (sym is-job)
 
     bell-there : job (jobsHeld t) i .bell < length (handed .phrase .bells)

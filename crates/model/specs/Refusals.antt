@@ -75,3 +75,9 @@ wrongPlaying = 17
 -- a release or an execution time lies outside its range
 abbrev pub outsideRange : ℕ
 outsideRange = 18
+
+-- ---- of reading, from version 2 on
+
+-- the shift is out of its range, or not 0 where the version has none
+abbrev pub wrongShift : ℕ
+wrongShift = 19

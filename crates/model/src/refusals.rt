@@ -34,3 +34,5 @@ pub const SHORT_FILE: u32 = 16;
 pub const WRONG_PLAYING: u32 = 17;
 
 pub const OUTSIDE_RANGE: u32 = 18;
+
+pub const WRONG_SHIFT: u32 = 19;

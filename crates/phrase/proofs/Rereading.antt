@@ -14,10 +14,9 @@ use Rattle.format.specs.Phrase.{Phrase}
 use Rattle.format.specs.Rules.{rules}
 use Rattle.format.specs.Reading.{reading}
 use Rattle.format.specs.Writing.{written, writing, leaves}
-use Rattle.format.proofs.First.{first-bytes}
 use Rattle.format.proofs.Files.{written-length}
 use Rattle.format.proofs.Layouts.{longest}
-use Rattle.format.proofs.Refusals.{refused-within, rules-refused-within}
+use Rattle.format.proofs.Refusals.{some-number, refused-within, rules-refused-within}
 use Rattle.format.proofs.Theorems.{sound, write-only, write-read, read-write}
 use Rattle.rows.specs.PhraseTable.{phraseTable, phraseOf}
 use Rattle.rows.proofs.PhraseTable.{phrase-of}
@@ -35,7 +34,7 @@ module _ (s : List ℕ) where
 
   -- A refusal has a number, and a place that is apart.
   pub unread-apart : (n at : ℕ) → reading s ≡ refused n at → (1 ≤ n) × (at < places)
-  unread-apart n at e = let w = refused-within s n at e in (w .0, omega (arith, first-bytes, w .2))
+  unread-apart n at e = let w = refused-within s n at e in (some-number n (w .0), omega (arith, w .1))
 
 -- ---- writing
 
@@ -58,7 +57,7 @@ module _ (x : Phrase) (room : ℕ) where
   pub length-apart : (s : List ℕ) → writing x room ≡ ok s → length s < places
   length-apart s e =
       let w = write-only x room s e in
-      omega (arith, first-bytes, ap length (w .1), written-length x (w .0), longest (x .version))
+      omega (arith, ap length (w .1), written-length x (w .0), longest (x .version))
 
   apart : (o : Outcome Phrase) → rules x ≡ o → (t : Bool) (n at : ℕ) → _>>_ o (_>>_ (require t shortFile 0) (ok (written x))) ≡ refused n at
       → (1 ≤ n) × (at < places)
@@ -66,7 +65,7 @@ module _ (x : Phrase) (room : ℕ) where
       let w = rules-refused-within x m to q in
       let number : m ≡ n = cc in
       let place : to ≡ at = cc in
-      (omega (arith, w .0), omega (arith, first-bytes, w .2))
+      (omega (arith, some-number m (w .0)), omega (arith, w .1))
   apart (ok y) q true n at e = let z : _≡_ {A = ℕ} 0 1 = cc in absurd (omega arith)
   apart (ok y) q false n at e =
       let number : shortFile ≡ n = cc in

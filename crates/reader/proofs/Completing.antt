@@ -158,7 +158,7 @@ padded-rows t rows n w most h e =
 
 -- The completed table of a phrase that was read is that of the phrase.
 pub completed-table : (x : Phrase) (t : List ℕ) → length t ≡ phraseWords → Filled (ok x) t
-    → completed (record { version = x .version; cores = x .cores; bells = length (x .bells); notes = length (x .notes) }) t ≡ phraseTable (ok x)
+    → completed (record { version = x .version; cores = x .cores; shift = x .shift; bells = length (x .bells); notes = length (x .notes) }) t ≡ phraseTable (ok x)
 completed-table x t l f =
     let bell-part : List ℕ = drop bellRowsAt t in
     let note-part : List ℕ = drop noteRowsAt t in
@@ -166,5 +166,5 @@ completed-table x t l f =
     let few-notes = f .fewNotes in
     let bells = padded-rows bell-part (bellRows (x .bells)) (length (x .bells)) bellWords mostBells (omega (arith, length-drop bellRowsAt t)) (f .bellsThere) in
     let notes =
-    padded-rows note-part (noteRows (x .bells) (x .notes)) (length (x .notes)) noteWords mostJobs (omega (arith, length-drop noteRowsAt t)) (f .notesThere) in
+    padded-rows note-part (noteRows (x .shift) (x .bells) (x .notes)) (length (x .notes)) noteWords mostJobs (omega (arith, length-drop noteRowsAt t)) (f .notesThere) in
     λ i. header x ++ (bells i ++ notes i)

@@ -4,27 +4,36 @@ ghost use Prim.Native.Nat.{_+_, _*_, _≤_, _<_};
 ghost use lib.ListN.{length};
 ghost use Rattle.model.specs.Limits.{mostJobs};
 ghost use Rattle.format.specs.Bytes.{number};
-ghost use Rattle.format.specs.Layout.{first, bellCountAt, mostBells, noteCountAt};
+ghost use Rattle.format.specs.Layout.{shiftAt, bellCountAt, mostBells, noteCountAt};
 ghost use Rattle.format.specs.Reading.{reading};
+ghost use Rattle.format.specs.internal.Sized.{Sized};
+ghost use Rattle.fields.specs.internal.Layouts.{layoutOf};
 ghost use Rattle.rows.specs.PhraseTable.{phraseWords, phraseTable};
 ghost use Rattle.records.specs.internal.Answers.{readingOf};
-ghost use Rattle.reader.specs.internal.Parts.{headerOf, bodyOf};
+ghost use Rattle.reader.specs.internal.Parts.{headerOf, shiftOf, bodyOf};
 ghost use Rattle.reader.specs.internal.Filling.{Filled, countsIn, completed};
 use fields::bytes::be_32;
 use fields::bytes::byte;
-use fields::layout::BELL_COUNT_AT;
+use fields::header::shift_in;
 use fields::layout::BYTE_COUNT_AT;
 use fields::layout::CORES_AT;
+use fields::layout::Layout;
+use fields::layout::SHIFT_AT;
 use fields::layout::UNCOUNTED_BYTES;
 use fields::layout::VERSION_AT;
+use fields::layout::VERSIONS;
+use fields::layout::bell_count_at;
+use fields::layout::layout_of;
+use fields::layout::note_count_at;
+use fields::rules::is_shift;
 use fields::rules::is_within;
 use model::limits::MOST_CORES;
 use model::refusals::WRONG_CORES;
 use model::refusals::WRONG_COUNT;
 use model::refusals::WRONG_END;
+use model::refusals::WRONG_SHIFT;
 use model::refusals::WRONG_VERSION;
 use records::answers::Reading;
-use records::bells::note_count_at;
 use records::bells::read_bells;
 use records::notes::read_notes;
 use rows::BELL_COUNT;
@@ -33,19 +42,17 @@ use rows::CORES;
 use rows::NOTE_COUNT;
 use rows::NOTE_ROWS;
 use rows::PHRASE_WORDS;
-use rows::SPARE;
+use rows::SHIFT;
 use rows::VERSION as VERSION_WORD;
 use rows::bell::BELL_WORDS;
 use rows::note::NOTE_WORDS;
 use words::clear;
 
-// The version of the files that are read.
-const VERSION: u32 = 1;
-
 // What the header of a table says.
 pub struct Counts {
     pub version: u32,
     pub cores: u32,
+    pub shift: u32,
     pub bells: u32,
     pub notes: u32,
 }
@@ -57,7 +64,7 @@ fn read_header(file: &[u8]) -> Reading
     if file.len() < 1 {
         return Reading::Refused(WRONG_COUNT, 0);
     }
-    if byte(file, VERSION_AT) != VERSION {
+    if !is_within(1, VERSIONS, byte(file, VERSION_AT)) {
         return Reading::Refused(WRONG_VERSION, 0);
     }
     if file.len() < UNCOUNTED_BYTES {
@@ -76,18 +83,32 @@ fn read_header(file: &[u8]) -> Reading
     Reading::Whole
 }
 
-// What follows the header: the bells and the notes.
-fn read_body(file: &[u8], phrase: &mut [u32]) -> Reading
-    requires { ⌜ phraseWords ≤ length (now phrase) ⌝ }
-    ensures { λ r. ⌜ r ≡ readingOf (bodyOf (now (file .entry))) ⌝ }
-    ensures { λ _. ⌜ Filled (bodyOf (now (file .entry))) (now (phrase .exit)) ⌝ }
+// The shift, where the version has one.
+fn read_shift(file: &[u8], l: Layout) -> Reading
+    requires { ⌜ Sized (layoutOf l) ⌝ }
+    ensures { λ r. ⌜ r ≡ readingOf (shiftOf (layoutOf l) (now (file .entry))) ⌝ }
 {
-    let bells = read_bells(file, phrase);
+    if file.len() < SHIFT_AT + l.shift {
+        return Reading::Refused(WRONG_END, SHIFT_AT);
+    }
+    if !is_shift(l, shift_in(file, l)) {
+        return Reading::Refused(WRONG_SHIFT, SHIFT_AT);
+    }
+    Reading::Whole
+}
+
+// What follows the shift: the bells and the notes.
+fn read_body(file: &[u8], l: Layout, phrase: &mut [u32]) -> Reading
+    requires { ⌜ Sized (layoutOf l) × (shiftAt + l .shift ≤ length (now file)) × (phraseWords ≤ length (now phrase)) ⌝ }
+    ensures { λ r. ⌜ r ≡ readingOf (bodyOf (layoutOf l) (now (file .entry))) ⌝ }
+    ensures { λ _. ⌜ Filled (bodyOf (layoutOf l) (now (file .entry))) (now (phrase .exit)) ⌝ }
+{
+    let bells = read_bells(file, l, phrase);
     let Reading::Whole = bells else {
         return bells;
     };
-    let n = byte(file, BELL_COUNT_AT) as usize;
-    read_notes(file, phrase, n)
+    let n = byte(file, bell_count_at(l)) as usize;
+    read_notes(file, l, shift_in(file, l), phrase, n)
 }
 
 // Reads the rows into their places, and leaves the rest of the table as it comes.
@@ -100,22 +121,29 @@ fn read_rows(file: &[u8], phrase: &mut [u32]) -> Reading
     let Reading::Whole = header else {
         return header;
     };
-    read_body(file, phrase)
+    let l = layout_of(byte(file, VERSION_AT));
+    let shift = read_shift(file, l);
+    let Reading::Whole = shift else {
+        return shift;
+    };
+    read_body(file, l, phrase)
 }
 
-// The counts that a file gives.
-fn counts_in(file: &[u8]) -> Counts
-    requires { ⌜ (bellCountAt first < length (now file)) × (number 1 (bellCountAt first) (now file) ≤ mostBells)
-        × (noteCountAt first (number 1 (bellCountAt first) (now file)) < length (now file)) ⌝ }
-    ensures { λ r. ⌜ r ≡ countsIn (now (file .entry)) ⌝ }
+// The counts that a file gives, and its shift.
+fn counts_in(file: &[u8], l: Layout) -> Counts
+    requires { ⌜ Sized (layoutOf l) × (bellCountAt (layoutOf l) < length (now file)) × (number 1 (bellCountAt (layoutOf l)) (now file) ≤ mostBells)
+        × (noteCountAt (layoutOf l) (number 1 (bellCountAt (layoutOf l)) (now file)) < length (now file)) ⌝ }
+    ensures { λ r. ⌜ r ≡ countsIn (layoutOf l) (now (file .entry)) ⌝ }
 {
     let version = byte(file, VERSION_AT);
     let cores = byte(file, CORES_AT);
-    let bells = byte(file, BELL_COUNT_AT);
-    let notes = byte(file, note_count_at(bells as usize));
+    let shift = shift_in(file, l);
+    let bells = byte(file, bell_count_at(l));
+    let notes = byte(file, note_count_at(l, bells as usize));
     Counts {
         version,
         cores,
+        shift,
         bells,
         notes,
     }
@@ -130,7 +158,7 @@ fn complete(phrase: &mut [u32], counts: Counts)
     phrase[CORES] = counts.cores;
     phrase[BELL_COUNT] = counts.bells;
     phrase[NOTE_COUNT] = counts.notes;
-    phrase[SPARE] = 0;
+    phrase[SHIFT] = counts.shift;
     let bell_end = BELL_ROWS + counts.bells as usize * BELL_WORDS;
     clear(&mut phrase[bell_end..NOTE_ROWS]);
     let note_end = NOTE_ROWS + counts.notes as usize * NOTE_WORDS;
@@ -147,6 +175,7 @@ pub fn read(file: &[u8], phrase: &mut [u32; PHRASE_WORDS]) -> Reading
         clear(phrase);
         return answer;
     };
-    complete(phrase, counts_in(file));
+    let l = layout_of(byte(file, VERSION_AT));
+    complete(phrase, counts_in(file, l));
     answer
 }

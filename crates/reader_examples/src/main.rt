@@ -22,7 +22,6 @@ use rows::BELL_ROWS;
 use rows::NOTE_COUNT;
 use rows::NOTE_ROWS;
 use rows::PHRASE_WORDS;
-use rows::SPARE;
 use rows::bell::BELL_WORDS;
 use rows::bell::SOUNDING;
 use rows::bell::WRITTEN;
@@ -114,7 +113,7 @@ fn show_header(phrase: &[u32]) {
         return;
     }
     print(b"read");
-    print_numbers(&phrase[0..SPARE]);
+    print_numbers(&phrase[0..BELL_ROWS]);
     print(b"\n");
 }
 

@@ -12,12 +12,13 @@ use borrow.Author.Tests.{lt-ltb, le-ltb, leb-true}
 use Rattle.model.specs.Refusals.{wrongEnd, wrongBellCount, wrongBell, doubledKey}
 use Rattle.words.specs.internal.Placed.{placed}
 use Rattle.format.specs.Bytes.{number, within}
-use Rattle.format.specs.Layout.{first, bellCountAt, bellsAt, bellBytes, mostBells}
+use Rattle.format.specs.Layout.{Layout, first, bellCountAt, bellsAt, bellBytes, mostBells}
 use Rattle.format.specs.Outcome.{ok, refused}
-use Rattle.format.specs.Phrase.{Bell, sounding, find}
+use Rattle.format.specs.Phrase.{Bell, sounding, findSounding}
 use Rattle.format.specs.Rules.{bellInRange}
 use Rattle.format.specs.Reading.{bellIn, bellRecord, bellsFrom, bellsIn}
 use Rattle.format.proofs.Passed.{required}
+use Rattle.format.proofs.Versions.{bells-from}
 use Rattle.format.proofs.Steps.{long, more-bells}
 use Rattle.format.proofs.Steps as steps
 use Rattle.rows.specs.Rows.{rowsIn}
@@ -41,11 +42,11 @@ module _ (bs : List Bell) (at : ℕ) (p : List ℕ) where
 
     module _ (e : bellInRange (bellIn first p) ≡ true) where
       -- A key that an earlier bell sounds for is refused.
-      pub doubled : (k : ℕ) → find (sounding (bellIn first p)) bs ≡ some k → bellRecord first bs at p ≡ refused doubledKey at
+      pub doubled : (k : ℕ) → findSounding (sounding (bellIn first p)) bs ≡ some k → bellRecord first bs at p ≡ refused doubledKey at
       doubled k f = long first bs at p h ∙ steps.doubled first bs at (bellIn first p) e k f
 
       -- Another bell is read.
-      pub whole : find (sounding (bellIn first p)) bs ≡ none → bellRecord first bs at p ≡ ok (bellIn first p)
+      pub whole : findSounding (sounding (bellIn first p)) bs ≡ none → bellRecord first bs at p ≡ ok (bellIn first p)
       whole f = long first bs at p h ∙ steps.whole first bs at (bellIn first p) e f
 
 -- ---- bell by bell
@@ -73,20 +74,23 @@ turn s n i at t h x l b e =
 
 -- ---- the count, and the bells
 
-module _ (s : List ℕ) where
+module _ (l : Layout) (s : List ℕ) where
   -- A file that ends before the count is refused.
-  pub no-count : length s ≤ bellCountAt first → bellsIn first s ≡ refused wrongEnd (bellCountAt first)
+  pub no-count : length s ≤ bellCountAt l → bellsIn l s ≡ refused wrongEnd (bellCountAt l)
   unfolding bellsIn
   no-count h = simp (le-ltb _ _ h)
 
-  module _ (h : bellCountAt first < length s) where
+  module _ (h : bellCountAt l < length s) where
     -- A count out of its range is refused.
-    pub bad-count : within 1 mostBells (number 1 (bellCountAt first) s) ≡ false → bellsIn first s ≡ refused wrongBellCount (bellCountAt first)
+    pub bad-count : within 1 mostBells (number 1 (bellCountAt l) s) ≡ false → bellsIn l s ≡ refused wrongBellCount (bellCountAt l)
     unfolding bellsIn
     bad-count e = simp (lt-ltb _ _ h, e)
 
-    -- So many bells are read.
-    pub right-count : within 1 mostBells (number 1 (bellCountAt first) s) ≡ true
-        → bellsIn first s ≡ bellsFrom first s (number 1 (bellCountAt first) s) (bellsAt first) []
+    counted : within 1 mostBells (number 1 (bellCountAt l) s) ≡ true → bellsIn l s ≡ bellsFrom l s (number 1 (bellCountAt l) s) (bellsAt l) []
     unfolding bellsIn
-    right-count e = simp (lt-ltb _ _ h, e)
+    counted e = simp (lt-ltb _ _ h, e)
+
+    -- So many bells are read, from their place on.
+    pub right-count : within 1 mostBells (number 1 (bellCountAt l) s) ≡ true
+        → bellsIn l s ≡ bellsFrom first s (number 1 (bellCountAt l) s) (bellsAt l) []
+    right-count e = counted e ∙ sym (bells-from l s (number 1 (bellCountAt l) s) (bellsAt l) [])

@@ -4,9 +4,11 @@ ghost use mathlib.Core.List.{[]};
 ghost use Prim.Native.Nat.{_+_, _*_, _≤_, _<_};
 ghost use lib.ListN.{length};
 ghost use Rattle.words.specs.internal.Placed.{placed};
-ghost use Rattle.format.specs.Layout.{first, bellBytes, bellsAt, mostBells, noteCountAt};
-ghost use Rattle.format.specs.Phrase.{sounding, find};
+ghost use Rattle.format.specs.Layout.{first, bellBytes, mostBells, longestFile};
+ghost use Rattle.format.specs.Phrase.{sounding, findSounding, find};
 ghost use Rattle.format.specs.Reading.{bellIn, bellRecord, bellsFrom, bellsIn};
+ghost use Rattle.format.specs.internal.Sized.{Sized};
+ghost use Rattle.fields.specs.internal.Layouts.{layoutOf};
 ghost use Rattle.rows.specs.BellRow.{bellWords, bellRow};
 ghost use Rattle.rows.specs.PhraseTable.{bellRowsAt, phraseWords};
 ghost use Rattle.records.specs.internal.Answers.{foundOf, readingOf};
@@ -18,9 +20,11 @@ use fields::bells::sounding_key;
 use fields::bells::write_bell;
 use fields::bytes::byte;
 use fields::layout::BELL_BYTES;
-use fields::layout::BELL_COUNT_AT;
-use fields::layout::BELLS_AT;
+use fields::layout::Layout;
+use fields::layout::bell_count_at;
+use fields::layout::bells_at;
 use fields::rules::is_within;
+use fields::rules::transposed;
 use model::refusals::DOUBLED_KEY;
 use model::refusals::WRONG_BELL;
 use model::refusals::WRONG_BELL_COUNT;
@@ -31,9 +35,9 @@ use rows::bell::BELL_WORDS;
 use rows::bell::SOUNDING;
 
 // The first of the first n bells that sounds for the key.
-pub fn find_bell(phrase: &[u32], n: usize, key: u32) -> Found
+fn find_sounding(phrase: &[u32], n: usize, key: u32) -> Found
     requires { ⌜ (n ≤ mostBells) × (phraseWords ≤ length (now phrase)) × BellTable (now phrase) n ⌝ }
-    ensures { λ r. ⌜ r ≡ foundOf (find key (bellsHeld (now (phrase .entry)) n)) ⌝ }
+    ensures { λ r. ⌜ r ≡ foundOf (findSounding key (bellsHeld (now (phrase .entry)) n)) ⌝ }
 {
     let mut i = 0;
     while i < n {
@@ -43,6 +47,14 @@ pub fn find_bell(phrase: &[u32], n: usize, key: u32) -> Found
         i += 1;
     }
     Found::Nothing
+}
+
+// The look-up of a bell: the first of the first n that sounds for the key of a note, moved by the shift.
+pub fn find_bell(phrase: &[u32], n: usize, key: u32, shift: u32) -> Found
+    requires { ⌜ (n ≤ mostBells) × (phraseWords ≤ length (now phrase)) × BellTable (now phrase) n × (key < 256) × (shift < 256) ⌝ }
+    ensures { λ r. ⌜ r ≡ foundOf (find key shift (bellsHeld (now (phrase .entry)) n)) ⌝ }
+{
+    find_sounding(phrase, n, transposed(key, shift))
 }
 
 // Writes row i.
@@ -69,7 +81,7 @@ fn read_bell(part: &[u8], at: usize, phrase: &mut [u32], i: usize) -> Reading
     if !is_in_range(part) {
         return Reading::Refused(WRONG_BELL, at);
     }
-    let found = find_bell(phrase, i, key);
+    let found = find_sounding(phrase, i, key);
     if let Found::At(_) = found {
         return Reading::Refused(DOUBLED_KEY, at);
     }
@@ -77,13 +89,13 @@ fn read_bell(part: &[u8], at: usize, phrase: &mut [u32], i: usize) -> Reading
     Reading::Whole
 }
 
-// The first n bells, in rows from the first on.
-fn bells_from(file: &[u8], n: usize, phrase: &mut [u32]) -> Reading
-    requires { ⌜ (bellsAt first ≤ length (now file)) × (n ≤ mostBells) × (phraseWords ≤ length (now phrase)) ⌝ }
-    ensures { λ r. ⌜ r ≡ readingOf (bellsFrom first (now (file .entry)) n (bellsAt first) []) ⌝ }
-    ensures { λ _. ⌜ HoldsBells (listOf (bellsFrom first (now (file .entry)) n (bellsAt first) [])) (now (phrase .exit)) ⌝ }
+// The first n bells, from `start` on, in rows from the first on.
+fn bells_from(file: &[u8], start: usize, n: usize, phrase: &mut [u32]) -> Reading
+    requires { ⌜ (start ≤ length (now file)) × (start ≤ longestFile) × (n ≤ mostBells) × (phraseWords ≤ length (now phrase)) ⌝ }
+    ensures { λ r. ⌜ r ≡ readingOf (bellsFrom first (now (file .entry)) n start []) ⌝ }
+    ensures { λ _. ⌜ HoldsBells (listOf (bellsFrom first (now (file .entry)) n start [])) (now (phrase .exit)) ⌝ }
 {
-    let mut at = BELLS_AT;
+    let mut at = start;
     let mut i = 0;
     while i < n {
         let answer = read_bell(&file[at..], at, phrase, i);
@@ -97,25 +109,18 @@ fn bells_from(file: &[u8], n: usize, phrase: &mut [u32]) -> Reading
 }
 
 // The bell count and the bells, whose rows are in the table once they are read.
-pub fn read_bells(file: &[u8], phrase: &mut [u32]) -> Reading
-    requires { ⌜ phraseWords ≤ length (now phrase) ⌝ }
-    ensures { λ r. ⌜ r ≡ readingOf (bellsIn first (now (file .entry))) ⌝ }
-    ensures { λ _. ⌜ HoldsBells (listOf (bellsIn first (now (file .entry)))) (now (phrase .exit)) ⌝ }
+pub fn read_bells(file: &[u8], l: Layout, phrase: &mut [u32]) -> Reading
+    requires { ⌜ Sized (layoutOf l) × (phraseWords ≤ length (now phrase)) ⌝ }
+    ensures { λ r. ⌜ r ≡ readingOf (bellsIn (layoutOf l) (now (file .entry))) ⌝ }
+    ensures { λ _. ⌜ HoldsBells (listOf (bellsIn (layoutOf l) (now (file .entry)))) (now (phrase .exit)) ⌝ }
 {
-    if file.len() <= BELL_COUNT_AT {
-        return Reading::Refused(WRONG_END, BELL_COUNT_AT);
+    let at = bell_count_at(l);
+    if file.len() <= at {
+        return Reading::Refused(WRONG_END, at);
     }
-    let count = byte(file, BELL_COUNT_AT);
+    let count = byte(file, at);
     if !is_within(1, MOST_BELLS as u32, count) {
-        return Reading::Refused(WRONG_BELL_COUNT, BELL_COUNT_AT);
+        return Reading::Refused(WRONG_BELL_COUNT, at);
     }
-    bells_from(file, count as usize, phrase)
-}
-
-// Where the note count stands, after n bells.
-pub fn note_count_at(n: usize) -> usize
-    requires { ⌜ n ≤ mostBells ⌝ }
-    ensures { λ r. ⌜ r ≡ noteCountAt first n ⌝ }
-{
-    BELLS_AT + n * BELL_BYTES
+    bells_from(file, bells_at(l), count as usize, phrase)
 }

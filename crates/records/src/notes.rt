@@ -8,16 +8,17 @@ ghost use Rattle.words.specs.internal.Placed.{placed};
 ghost use Rattle.format.specs.Bytes.{number};
 ghost use Rattle.format.specs.Layout.{first, mostBells, bellCountAt, noteCountAt};
 ghost use Rattle.format.specs.Rules.{noteRules};
+ghost use Rattle.format.specs.internal.Sized.{Sized};
 ghost use Rattle.format.specs.Reading.{noteIn, noteRecord, notesFrom, notesIn};
 ghost use Rattle.rows.specs.NoteRow.{noteWords, noteRowOn};
 ghost use Rattle.rows.specs.PhraseTable.{noteRowsAt, phraseWords};
+ghost use Rattle.fields.specs.internal.Layouts.{layoutOf};
 ghost use Rattle.fields.specs.internal.NoteRecord.{WholeNote};
 ghost use Rattle.records.specs.internal.Answers.{readingOf};
 ghost use Rattle.records.specs.internal.Filling.{listOf, bellsHeld, BellTable, HoldsBells, notePut, HoldsNotes};
 use crate::answers::Found;
 use crate::answers::Reading;
 use crate::bells::find_bell;
-use crate::bells::note_count_at;
 use fields::bytes::be_32;
 use fields::bytes::byte;
 use fields::layout::DEADLINE_AT;
@@ -25,6 +26,8 @@ use fields::layout::EARLIEST_RELEASE_AT;
 use fields::layout::KEY_AT;
 use fields::layout::LATEST_RELEASE_AT;
 use fields::layout::LENGTH_AT;
+use fields::layout::Layout;
+use fields::layout::note_count_at;
 use fields::notes::do_rise;
 use fields::notes::is_note_length;
 use fields::notes::write_note;
@@ -50,14 +53,21 @@ fn put_note(part: &[u8], bell: u32, phrase: &mut [u32], own: usize)
 }
 
 // The fields of a note record that is there, after `own` notes: 10, 11, 12, then its row.
-fn note_fields(part: &[u8], at: usize, phrase: &mut [u32], n: usize, own: usize) -> Reading
-    requires { ⌜ WholeNote (now part) × (n ≤ mostBells) × (phraseWords ≤ length (now phrase)) × BellTable (now phrase) n × (own < mostJobs) ⌝ }
-    ensures { λ r. ⌜ r ≡ readingOf (noteRules (bellsHeld (now (phrase .entry)) n) own at (noteIn first (now (part .entry)))) ⌝ }
-    ensures { λ _. ⌜ now (phrase .exit) ≡ notePut (bellsHeld (now (phrase .entry)) n)
-        (noteRules (bellsHeld (now (phrase .entry)) n) own at (noteIn first (now (part .entry)))) (now (phrase .entry)) own ⌝ }
+fn note_fields(
+    part: &[u8],
+    at: usize,
+    shift: u32,
+    phrase: &mut [u32],
+    n: usize,
+    own: usize,
+) -> Reading
+    requires { ⌜ WholeNote (now part) × (n ≤ mostBells) × (phraseWords ≤ length (now phrase)) × BellTable (now phrase) n × (own < mostJobs) × (shift < 256) ⌝ }
+    ensures { λ r. ⌜ r ≡ readingOf (noteRules shift (bellsHeld (now (phrase .entry)) n) own at (noteIn first (now (part .entry)))) ⌝ }
+    ensures { λ _. ⌜ now (phrase .exit) ≡ notePut shift (bellsHeld (now (phrase .entry)) n)
+        (noteRules shift (bellsHeld (now (phrase .entry)) n) own at (noteIn first (now (part .entry)))) (now (phrase .entry)) own ⌝ }
 {
     let key = byte(part, KEY_AT);
-    let Found::At(bell) = find_bell(phrase, n, key) else {
+    let Found::At(bell) = find_bell(phrase, n, key, shift) else {
         return Reading::Refused(SILENT_KEY, at);
     };
     let earliest = be_32(part, EARLIEST_RELEASE_AT);
@@ -74,11 +84,18 @@ fn note_fields(part: &[u8], at: usize, phrase: &mut [u32], n: usize, own: usize)
 }
 
 // One note record, from the part of the file that begins at its length byte, after `own` notes.
-fn read_note(part: &[u8], at: usize, phrase: &mut [u32], n: usize, own: usize) -> Reading
-    requires { ⌜ (n ≤ mostBells) × (phraseWords ≤ length (now phrase)) × BellTable (now phrase) n × (own < mostJobs) ⌝ }
-    ensures { λ r. ⌜ r ≡ readingOf (noteRecord first (bellsHeld (now (phrase .entry)) n) own at (now (part .entry))) ⌝ }
-    ensures { λ _. ⌜ now (phrase .exit) ≡ notePut (bellsHeld (now (phrase .entry)) n)
-        (noteRecord first (bellsHeld (now (phrase .entry)) n) own at (now (part .entry))) (now (phrase .entry)) own ⌝ }
+fn read_note(
+    part: &[u8],
+    at: usize,
+    shift: u32,
+    phrase: &mut [u32],
+    n: usize,
+    own: usize,
+) -> Reading
+    requires { ⌜ (n ≤ mostBells) × (phraseWords ≤ length (now phrase)) × BellTable (now phrase) n × (own < mostJobs) × (shift < 256) ⌝ }
+    ensures { λ r. ⌜ r ≡ readingOf (noteRecord first shift (bellsHeld (now (phrase .entry)) n) own at (now (part .entry))) ⌝ }
+    ensures { λ _. ⌜ now (phrase .exit) ≡ notePut shift (bellsHeld (now (phrase .entry)) n)
+        (noteRecord first shift (bellsHeld (now (phrase .entry)) n) own at (now (part .entry))) (now (phrase .entry)) own ⌝ }
 {
     if part.len() < 1 {
         return Reading::Refused(WRONG_END, at);
@@ -90,21 +107,29 @@ fn read_note(part: &[u8], at: usize, phrase: &mut [u32], n: usize, own: usize) -
     if part.len() <= size as usize {
         return Reading::Refused(WRONG_END, at);
     }
-    note_fields(part, at, phrase, n, own)
+    note_fields(part, at, shift, phrase, n, own)
 }
 
 // `count` notes from `start` on, with which the file ends. The rows of the n bells stay.
-fn notes_from(file: &[u8], start: usize, count: usize, phrase: &mut [u32], n: usize) -> Reading
-    requires { ⌜ (start ≤ length (now file)) × (count ≤ mostJobs) × (n ≤ mostBells) × (phraseWords ≤ length (now phrase)) × BellTable (now phrase) n ⌝ }
-    ensures { λ r. ⌜ r ≡ readingOf (notesFrom first (now (file .entry)) (bellsHeld (now (phrase .entry)) n) count start []) ⌝ }
+fn notes_from(
+    file: &[u8],
+    start: usize,
+    count: usize,
+    shift: u32,
+    phrase: &mut [u32],
+    n: usize,
+) -> Reading
+    requires { ⌜ (start ≤ length (now file)) × (count ≤ mostJobs) × (n ≤ mostBells) × (phraseWords ≤ length (now phrase)) × BellTable (now phrase) n
+        × (shift < 256) ⌝ }
+    ensures { λ r. ⌜ r ≡ readingOf (notesFrom first (now (file .entry)) shift (bellsHeld (now (phrase .entry)) n) count start []) ⌝ }
     ensures { λ _. ⌜ HoldsBells (bellsHeld (now (phrase .entry)) n) (now (phrase .exit)) ⌝ }
-    ensures { λ _. ⌜ HoldsNotes (bellsHeld (now (phrase .entry)) n)
-        (listOf (notesFrom first (now (file .entry)) (bellsHeld (now (phrase .entry)) n) count start [])) (now (phrase .exit)) ⌝ }
+    ensures { λ _. ⌜ HoldsNotes shift (bellsHeld (now (phrase .entry)) n)
+        (listOf (notesFrom first (now (file .entry)) shift (bellsHeld (now (phrase .entry)) n) count start [])) (now (phrase .exit)) ⌝ }
 {
     let mut at = start;
     let mut i = 0;
     while i < count {
-        let answer = read_note(&file[at..], at, phrase, n, i);
+        let answer = read_note(&file[at..], at, shift, phrase, n, i);
         let Reading::Whole = answer else {
             return answer;
         };
@@ -118,14 +143,14 @@ fn notes_from(file: &[u8], start: usize, count: usize, phrase: &mut [u32], n: us
 }
 
 // The note count and the notes, whose rows are in the table once they are read. `n` is the file's bell count.
-pub fn read_notes(file: &[u8], phrase: &mut [u32], n: usize) -> Reading
-    requires { ⌜ (n ≡ number 1 (bellCountAt first) (now file)) × (n ≤ mostBells) × (phraseWords ≤ length (now phrase)) × BellTable (now phrase) n ⌝ }
-    ensures { λ r. ⌜ r ≡ readingOf (notesIn first (now (file .entry)) (bellsHeld (now (phrase .entry)) n) (noteCountAt first n)) ⌝ }
+pub fn read_notes(file: &[u8], l: Layout, shift: u32, phrase: &mut [u32], n: usize) -> Reading
+    requires { ⌜ Sized (layoutOf l) × (shift < 256) × (n ≡ number 1 (bellCountAt (layoutOf l)) (now file)) × (n ≤ mostBells) × (phraseWords ≤ length (now phrase)) × BellTable (now phrase) n ⌝ }
+    ensures { λ r. ⌜ r ≡ readingOf (notesIn (layoutOf l) (now (file .entry)) shift (bellsHeld (now (phrase .entry)) n) (noteCountAt (layoutOf l) n)) ⌝ }
     ensures { λ _. ⌜ HoldsBells (bellsHeld (now (phrase .entry)) n) (now (phrase .exit)) ⌝ }
-    ensures { λ _. ⌜ HoldsNotes (bellsHeld (now (phrase .entry)) n)
-        (listOf (notesIn first (now (file .entry)) (bellsHeld (now (phrase .entry)) n) (noteCountAt first n))) (now (phrase .exit)) ⌝ }
+    ensures { λ _. ⌜ HoldsNotes shift (bellsHeld (now (phrase .entry)) n)
+        (listOf (notesIn (layoutOf l) (now (file .entry)) shift (bellsHeld (now (phrase .entry)) n) (noteCountAt (layoutOf l) n))) (now (phrase .exit)) ⌝ }
 {
-    let at = note_count_at(n);
+    let at = note_count_at(l, n);
     if file.len() <= at {
         return Reading::Refused(WRONG_END, at);
     }
@@ -133,5 +158,5 @@ pub fn read_notes(file: &[u8], phrase: &mut [u32], n: usize) -> Reading
     if MOST_JOBS < count {
         return Reading::Refused(TOO_MANY_NOTES, at);
     }
-    notes_from(file, at + 1, count, phrase, n)
+    notes_from(file, at + 1, count, shift, phrase, n)
 }

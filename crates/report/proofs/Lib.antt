@@ -1,3 +1,4 @@
 -- Laws of the delivery of a report, and of its text.
 pub mod Delivery
 pub mod Texts
+pub mod Shifting

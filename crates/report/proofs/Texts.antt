@@ -1,7 +1,7 @@
 -- The text that is composed from a check's result and the table of its phrase is the report's. Assumes nothing.
 use Prim.Native.Nat.{ℕ, _-_, _≤_, _<_}
 use mathlib.Core.Path.{_≡_, refl, sym, ap, _∙_, subst₂}
-use mathlib.Core.List.{List, _++_}
+use mathlib.Core.List.{List, [], _++_}
 use native.Mathlib.Omega.{arith}
 use lib.ListN.{getD, length, length-append}
 use Rattle.model.specs.Limits.{mostJobs}
@@ -11,28 +11,30 @@ use Rattle.model.specs.Exploration.{accepted, refused, late}
 use Rattle.model.specs.Exploration.{Verdict}
 use Rattle.model.proofs.Folds.{sum-ext}
 use Rattle.words.proofs.Maps.{getD-map}
-use Rattle.format.specs.Phrase.{Phrase}
-use Rattle.format.specs.Jobs.{noNote, note, struck, jobOf, jobsOf}
+use Rattle.format.specs.Layout.{layout}
+use Rattle.format.specs.Phrase.{Phrase, transposed}
+use Rattle.format.specs.Jobs.{noBell, noNote, note, shiftedKey, struck, jobOf, jobsOf}
 use Rattle.format.specs.Outcome.{Outcome, ok}
 use Rattle.format.specs.Reading.{reading}
 use Rattle.format.specs.Outcome.{refused as unread}
 use Rattle.format.specs.Bytes.{AreBytes}
-use Rattle.format.specs.Valid.{Valid}
+use Rattle.format.specs.Valid.{ValidNote, Valid}
 use Rattle.format.proofs.Theorems.{sound}
-use Rattle.format.proofs.Jobs.{analysable}
+use Rattle.format.proofs.Jobs.{each-at, strikes, analysable}
+use Rattle.format.proofs.Ranges.{transposition-small, bell-ranges, shift-fits, key-small}
 use Rattle.rows.specs.BellRow.{mostExecutionWord, bellRow}
 use Rattle.rows.specs.NoteRow.{keyWord, deadlineWord, struckWord, noteRowOn}
-use Rattle.rows.specs.PhraseTable.{phraseTable}
+use Rattle.rows.specs.PhraseTable.{shiftWord, phraseTable}
 use Rattle.rows.specs.internal.Handed.{bellWord, noteWord}
 use Rattle.rows.proofs.NoteRow.{row-words}
-use Rattle.rows.proofs.PhraseTable.{few-bells, few-notes, few-listed, struck-below, bell-word, note-word}
+use Rattle.rows.proofs.PhraseTable.{few-bells, few-notes, few-listed, struck-below, header-word, bell-word, note-word}
 use Rattle.jobs.proofs.JobRow.{jobs-length}
 use Rattle.checking.specs.Checking.{verdict, perJob, resultOf, checkedOf}
 use Rattle.checking.specs.declared.Checked.{Checked}
 use Rattle.checking.proofs.PerJob.{per-job-at}
 use Rattle.lines.specs.Lines.{labelled, strokeLine, lines, acceptedLine, refusedLine, lateLine}
 use Rattle.report.specs.Report.{strokeOf, holdOf, textFor, textOf}
-use Rattle.report.specs.internal.Rows.{strokeIn, holdIn, Keyed, acceptedText, textIn}
+use Rattle.report.specs.internal.Rows.{keyIn, strokeIn, holdIn, SmallKey, Keyed, acceptedText, textIn}
 use Rattle.lines.proofs.Series.{lines-ext}
 
 -- what is asked of a result and of the table of its phrase before they are composed, and what comes of it
@@ -55,17 +57,32 @@ module _ (x : Phrase) (v : Valid x) where
     here : i < length (x .notes)
     here = omega (arith, jobs-length x)
 
-    job-is : job js i ≡ jobOf (x .bells) (note x i)
-    job-is = getD-map (jobOf (x .bells)) (x .notes) i noNote noJob here
+    job-is : job js i ≡ jobOf (x .shift) (x .bells) (note x i)
+    job-is = getD-map (jobOf (x .shift) (x .bells)) (x .notes) i noNote noJob here
 
-    key-is : noteWord t i keyWord ≡ note x i .key
+    written-is : noteWord t i keyWord ≡ note x i .key
     unfolding noteRowOn
-    key-is = note-word x v i keyWord here (omega arith)
+    written-is = note-word x v i keyWord here (omega arith)
 
-    bell-is : noteWord t i struckWord ≡ struck (x .bells) (note x i)
+    shift-is : getD t shiftWord 0 ≡ x .shift
+    shift-is = header-word x v shiftWord (omega arith)
+
+    key-is : keyIn t i ≡ shiftedKey x i
+    key-is n = transposed (written-is n) (shift-is n)
+
+    small-key : SmallKey t i
+    small-key =
+        let rule = each-at (ValidNote (x .shift) (x .bells)) [] (x .notes) (v .fields .notes) i noNote here in
+        let bell = strikes (x .shift) (x .bells) (note x i) (v .fields .bells) (rule .sounds) in
+        let sounds = bell-ranges (getD (x .bells) (struck (x .shift) (x .bells) (note x i)) noBell) (bell .1) .sounds in
+        let shift = shift-fits (layout (x .version)) (x .shift) (v .fields .shift) .0 in
+        let key = key-small (note x i .key) (x .shift) shift (rw (bell .2) at (sounds .1)) in
+        (omega (arith, written-is, key), omega (arith, shift-is, transposition-small (x .shift) shift))
+
+    bell-is : noteWord t i struckWord ≡ struck (x .shift) (x .bells) (note x i)
     bell-is =
         note-word x v i struckWord here (omega arith)
-        ∙ ap (λ (r : List ℕ). getD r struckWord 0) (row-words (struck (x .bells) (note x i)) (note x i) (few-listed x v i here))
+        ∙ ap (λ (r : List ℕ). getD r struckWord 0) (row-words (struck (x .shift) (x .bells) (note x i)) (note x i) (few-listed x v i here))
 
     deadline-is : noteWord t i deadlineWord ≡ note x i .deadline
     unfolding noteRowOn
@@ -75,7 +92,7 @@ module _ (x : Phrase) (v : Valid x) where
     unfolding bellRow
     execution-is =
         ap (λ (n : ℕ). bellWord t n mostExecutionWord) bell-is
-        ∙ bell-word x v (struck (x .bells) (note x i)) mostExecutionWord (struck-below x v i here) (omega arith)
+        ∙ bell-word x v (struck (x .shift) (x .bells) (note x i)) mostExecutionWord (struck-below x v i here) (omega arith)
         ∙ ap (λ (j : Job). j .mostExecution) (sym job-is)
 
   module _ (bounds : List Range) (c : ℕ) where
@@ -113,7 +130,7 @@ module _ (x : Phrase) (v : Valid x) where
   keyed : Keyed t (length js)
   keyed i b =
       let low = analysable x v .keys i b in
-      (omega (arith, key-is i b, low), omega (arith, bell-is i b, struck-below x v i (here i b), few-bells x v))
+      (omega (arith, key-is i b, low), omega (arith, bell-is i b, struck-below x v i (here i b), few-bells x v), small-key i b)
 
   composed-for : (w : Verdict) → Composed (resultOf js w) t (textFor x w)
   composed-for (accepted bounds c) = record { few = few-jobs; keyed = keyed; text-is = accepted-is bounds c }

@@ -11,7 +11,7 @@ use Rattle.model.specs.States.{Range, empty, earliest, latest}
 use Rattle.model.specs.Exploration.{accepted, refused, late}
 use Rattle.model.specs.Exploration.{Verdict}
 use Rattle.format.specs.Phrase.{Phrase}
-use Rattle.format.specs.Jobs.{note, jobsOf}
+use Rattle.format.specs.Jobs.{shiftedKey, jobsOf}
 use Rattle.format.specs.Outcome.{Outcome, ok}
 use Rattle.format.specs.Outcome.{refused as unread}
 use Rattle.checking.specs.Checking.{verdict, refusing, checkedOf, answerFor}
@@ -24,13 +24,13 @@ use Rattle.report.specs.declared.Reported.{Reported}
 
 -- ---- the text
 
--- What the line of a stroke shows: its number, the key of its note, its bell, the bounds of its finish time (its ends) and of its response, which is the
--- finish time minus the earliest release (ra), and its deadline.
+-- What the line of a stroke shows: its number, the key of its note, moved by the shift, its bell, the bounds of its finish time (its ends) and of its
+-- response, which is the finish time minus the earliest release (ra), and its deadline.
 abbrev pub strokeOf : Phrase → List Range → ℕ → Stroke
 strokeOf x bounds i =
     record {
       number = i;
-      key = note x i .key;
+      key = shiftedKey x i;
       bell = job (jobsOf x) i .bell;
       earliest = earliest (getD bounds i empty);
       latest = latest (getD bounds i empty);

@@ -6,8 +6,9 @@ ghost use Rattle.model.specs.Limits.{mostJobs};
 ghost use Rattle.text.specs.internal.Written.{Room, Written};
 ghost use Rattle.lines.specs.internal.Longest.{longestStroke};
 ghost use Rattle.report.specs.internal.Longest.{longestText};
-ghost use Rattle.report.specs.internal.Rows.{strokeIn, strokesText, holdIn, Keyed, acceptedText};
+ghost use Rattle.report.specs.internal.Rows.{keyIn, strokeIn, strokesText, holdIn, SmallKey, Keyed, acceptedText};
 use checking::Checked;
+use fields::rules::transposed;
 use lines::lengths::last_length;
 use lines::lengths::stroke_length;
 use lines::lines::Stroke;
@@ -15,12 +16,24 @@ use lines::lines::put_last;
 use lines::lines::put_stroke;
 use model::limits::MOST_JOBS;
 use rows::PHRASE_WORDS;
+use rows::SHIFT;
 use rows::bell::MOST_EXECUTION;
 use rows::bell_word;
+use rows::header_word;
 use rows::note::DEADLINE;
 use rows::note::KEY;
 use rows::note::STRUCK;
 use rows::note_word;
+
+// The key of stroke i, moved by the shift.
+fn shifted_key(phrase: &[u32; PHRASE_WORDS], i: usize) -> u32
+    requires { ⌜ (i < mostJobs) × SmallKey (now phrase) i ⌝ }
+    ensures { λ r. ⌜ r ≡ keyIn (now (phrase .entry)) i ⌝ }
+{
+    let key = note_word(phrase, i, KEY);
+    let shift = header_word(phrase, SHIFT);
+    transposed(key, shift)
+}
 
 fn stroke(
     phrase: &[u32; PHRASE_WORDS],
@@ -30,13 +43,13 @@ fn stroke(
     worst: &[u32; MOST_JOBS],
     i: usize,
 ) -> Stroke
-    requires { ⌜ i < mostJobs ⌝ }
+    requires { ⌜ (i < mostJobs) × SmallKey (now phrase) i ⌝ }
     ensures { λ r. ⌜ r
         ≡ strokeIn (now (phrase .entry)) (now (earliest .entry)) (now (latest .entry)) (now (best .entry)) (now (worst .entry)) i ⌝ }
 {
     Stroke {
         number: i,
-        key: note_word(phrase, i, KEY),
+        key: shifted_key(phrase, i),
         bell: note_word(phrase, i, STRUCK),
         earliest: earliest[i],
         latest: latest[i],

@@ -58,39 +58,39 @@ row-back-on bell n more =
     let same : take (length l) ((padded mostListed l ++ bell ∷ []) ++ more) ≡ l = ap (take (length l)) split ∙ take-at l after (length l) refl in
     λ i. record { key = n .key; earliestRelease = n .earliestRelease; latestRelease = n .latestRelease; deadline = n .deadline; listed = same i }
 
-module _ (bells : List Bell) where
+module _ (shift : ℕ) (bells : List Bell) where
   -- The note of its row is read from it, whatever follows.
-  pub row-back : (n : Note) (more : List ℕ) → noteOfRow (noteRow bells n ++ more) ≡ n
-  row-back n more = row-back-on (struck bells n) n more
+  pub row-back : (n : Note) (more : List ℕ) → noteOfRow (noteRow shift bells n ++ more) ≡ n
+  row-back n more = row-back-on (struck shift bells n) n more
 
   -- Rows of notes that list at most four have that width.
-  pub rows-wide : (ns : List Note) → All ListsFew ns → Wide (noteRow bells) noteWords ns
+  pub rows-wide : (ns : List Note) → All ListsFew ns → Wide (noteRow shift bells) noteWords ns
   unfolding All
   rows-wide [] h = tt
-  rows-wide (n ∷ ns) (h, hs) = (row-length (struck bells n) n h, rows-wide ns hs)
+  rows-wide (n ∷ ns) (h, hs) = (row-length (struck shift bells n) n h, rows-wide ns hs)
 
   -- Rows of notes that list at most four are read back.
-  pub rows-read-back : (ns : List Note) → All ListsFew ns → ReadBack (noteRow bells) noteOfRow noteWords ns
+  pub rows-read-back : (ns : List Note) → All ListsFew ns → ReadBack (noteRow shift bells) noteOfRow noteWords ns
   unfolding All
   rows-read-back [] h = tt
-  rows-read-back (n ∷ ns) (h, hs) = ((row-length (struck bells n) n h, row-back n), rows-read-back ns hs)
+  rows-read-back (n ∷ ns) (h, hs) = ((row-length (struck shift bells n) n h, row-back n), rows-read-back ns hs)
 
 -- ---- the rows in a table
 
-module _ (bells : List Bell) where
+module _ (shift : ℕ) (bells : List Bell) where
   -- the rows of notes begin with those of these
   abbrev Begins : List Note → List ℕ → Type 0
-  Begins ns t = BeginsWith (noteRow bells) noteWords ns (drop noteRowsAt t)
+  Begins ns t = BeginsWith (noteRow shift bells) noteWords ns (drop noteRowsAt t)
 
   -- The rows of notes begin with those of none.
   pub begins-none : (t : List ℕ) → Begins [] t
-  begins-none t = begins-with-none (noteRow bells) noteWords (drop noteRowsAt t)
+  begins-none t = begins-with-none (noteRow shift bells) noteWords (drop noteRowsAt t)
 
   -- They begin with one row more once it is placed after the others.
   pub begins-more : (ns : List Note) (n : Note) (t : List ℕ) → ListsFew n → noteRowsAt + suc (length ns) * noteWords ≤ length t → Begins ns t
-      → Begins (ns ++ n ∷ []) (placed t (noteRowsAt + length ns * noteWords) (noteRow bells n))
+      → Begins (ns ++ n ∷ []) (placed t (noteRowsAt + length ns * noteWords) (noteRow shift bells n))
   begins-more ns n t few h x =
-      let wide = row-length (struck bells n) n few in
-      let put = drop-placed t noteRowsAt (length ns * noteWords) (noteRow bells n) (omega arith) in
+      let wide = row-length (struck shift bells n) n few in
+      let put = drop-placed t noteRowsAt (length ns * noteWords) (noteRow shift bells n) (omega arith) in
       let room : suc (length ns) * noteWords ≤ length (drop noteRowsAt t) = omega (arith, length-drop noteRowsAt t) in
-      subst (BeginsWith (noteRow bells) noteWords (ns ++ n ∷ [])) (sym put) (begins-with-more (noteRow bells) noteWords ns n (drop noteRowsAt t) wide room x)
+      subst (BeginsWith (noteRow shift bells) noteWords (ns ++ n ∷ [])) (sym put) (begins-with-more (noteRow shift bells) noteWords ns n (drop noteRowsAt t) wide room x)

@@ -1,6 +1,6 @@
 -- The table of a phrase that a file may hold: how much of it is used, what each word is, and that the phrase is read back from it. Assumes nothing.
-use Prim.Native.Nat.{ℕ, zero, suc, _+_, _-_, _*_, _≤_, _<_}
-use mathlib.Core.Path.{_≡_, refl, ap, subst, _∙_}
+use Prim.Native.Nat.{ℕ, _+_, _-_, _*_, _≤_, _<_}
+use mathlib.Core.Path.{_≡_, refl, ap, _∙_}
 use mathlib.Core.List.{List, [], _∷_, _++_, append-assoc}
 use native.Mathlib.Omega.{arith}
 use lib.ListN.{length, getD, take, drop, replicate, List·getD-append}
@@ -8,12 +8,13 @@ use lib.Seq.{getD-append-add, drop-at}
 use Rattle.model.specs.Limits.{mostJobs}
 use Rattle.words.specs.Padded.{padded}
 use Rattle.words.proofs.Padded.{padded-length}
-use Rattle.format.specs.Layout.{Layout, first, versions, layout, mostBells, mostListed}
+use Rattle.format.specs.Layout.{mostBells, mostListed}
 use Rattle.format.specs.Outcome.{ok}
 use Rattle.format.specs.Phrase.{Bell, Note, Phrase}
 use Rattle.format.specs.Jobs.{noBell, noNote, note, struck}
 use Rattle.format.specs.Valid.{Each, ValidNote, Valid}
 use Rattle.format.specs.Fits.{All}
+use Rattle.format.proofs.Layouts.{most-notes}
 use Rattle.format.proofs.Jobs.{each-at, strikes}
 use Rattle.rows.specs.BellRow.{bellWords, bellRow, bellRows, bellOfRow, bellsOfRows}
 use Rattle.rows.specs.NoteRow.{noteWords, noteRow, noteRows, noteOfRow, notesOfRows}
@@ -24,25 +25,16 @@ use Rattle.rows.proofs.BellRow as bell-rows
 use Rattle.rows.proofs.NoteRow.{ListsFew}
 use Rattle.rows.proofs.NoteRow as note-rows
 
--- Every number has the layout of version 1, which is the only one.
-pub one-layout : (v : ℕ) → layout v ≡ first
-unfolding layout
-one-layout v = only (v - 1)
-  where
-    only : (k : ℕ) → getD versions k first ≡ first
-    only zero = refl
-    only (suc k) = refl
-
-notes-few : (bells : List Bell) (before notes : List Note) → Each (ValidNote bells) before notes → All ListsFew notes
+notes-few : (shift : ℕ) (bells : List Bell) (before notes : List Note) → Each (ValidNote shift bells) before notes → All ListsFew notes
 unfolding Each All
-notes-few bells before [] v = tt
-notes-few bells before (n ∷ ns) (v, vs) = (v .few, notes-few bells (before ++ n ∷ []) ns vs)
+notes-few shift bells before [] v = tt
+notes-few shift bells before (n ∷ ns) (v, vs) = (v .few, notes-few shift bells (before ++ n ∷ []) ns vs)
 
 -- ---- the table
 
 module _ (x : Phrase) (v : Valid x) where
-  valid-note : (i : ℕ) → i < length (x .notes) → ValidNote (x .bells) (take i (x .notes)) (note x i)
-  valid-note i h = each-at (ValidNote (x .bells)) [] (x .notes) (v .fields .notes) i noNote h
+  valid-note : (i : ℕ) → i < length (x .notes) → ValidNote (x .shift) (x .bells) (take i (x .notes)) (note x i)
+  valid-note i h = each-at (ValidNote (x .shift) (x .bells)) [] (x .notes) (v .fields .notes) i noNote h
 
   -- Its bells are no more than the table has rows for.
   pub few-bells : length (x .bells) ≤ mostBells
@@ -50,36 +42,36 @@ module _ (x : Phrase) (v : Valid x) where
 
   -- Its notes are no more than the table has rows for.
   pub few-notes : length (x .notes) ≤ mostJobs
-  few-notes = subst (λ (l : Layout). length (x .notes) ≤ l .mostNotes) (one-layout (x .version)) (v .fields .noteCount)
+  few-notes = omega (arith, v .fields .noteCount, most-notes (x .version))
 
   -- A note lists no more numbers than its row has words for.
   pub few-listed : (i : ℕ) → i < length (x .notes) → length (note x i .listed) ≤ mostListed
   few-listed i h = valid-note i h .few
 
   -- The number of the bell that a note strikes is that of a bell.
-  pub struck-below : (i : ℕ) → i < length (x .notes) → struck (x .bells) (note x i) < length (x .bells)
-  struck-below i h = strikes (x .bells) (note x i) (v .fields .bells) (valid-note i h .sounds) .0
+  pub struck-below : (i : ℕ) → i < length (x .notes) → struck (x .shift) (x .bells) (note x i) < length (x .bells)
+  struck-below i h = strikes (x .shift) (x .bells) (note x i) (v .fields .bells) (valid-note i h .sounds) .0
 
   bells-wide : Wide bellRow bellWords (x .bells)
   bells-wide = bell-rows.rows-wide (x .bells)
 
   all-few : All ListsFew (x .notes)
-  all-few = notes-few (x .bells) [] (x .notes) (v .fields .notes)
+  all-few = notes-few (x .shift) (x .bells) [] (x .notes) (v .fields .notes)
 
-  notes-wide : Wide (noteRow (x .bells)) noteWords (x .notes)
-  notes-wide = note-rows.rows-wide (x .bells) (x .notes) all-few
+  notes-wide : Wide (noteRow (x .shift) (x .bells)) noteWords (x .notes)
+  notes-wide = note-rows.rows-wide (x .shift) (x .bells) (x .notes) all-few
 
   bell-part : List ℕ
   bell-part = padded (mostBells * bellWords) (bellRows (x .bells))
 
   note-part : List ℕ
-  note-part = padded (mostJobs * noteWords) (noteRows (x .bells) (x .notes))
+  note-part = padded (mostJobs * noteWords) (noteRows (x .shift) (x .bells) (x .notes))
 
   bells-length : length (bellRows (x .bells)) ≡ length (x .bells) * bellWords
   bells-length = records-length bellRow bellWords (x .bells) bells-wide
 
-  notes-length : length (noteRows (x .bells) (x .notes)) ≡ length (x .notes) * noteWords
-  notes-length = records-length (noteRow (x .bells)) noteWords (x .notes) notes-wide
+  notes-length : length (noteRows (x .shift) (x .bells) (x .notes)) ≡ length (x .notes) * noteWords
+  notes-length = records-length (noteRow (x .shift) (x .bells)) noteWords (x .notes) notes-wide
 
   bell-part-length : length bell-part ≡ mostBells * bellWords
   unfolding bell-part
@@ -107,23 +99,23 @@ module _ (x : Phrase) (v : Valid x) where
 
   -- A word of the row of a note is in its place.
   pub note-word : (i at : ℕ) → i < length (x .notes) → at < noteWords
-      → noteWord (phraseTable (ok x)) i at ≡ getD (noteRow (x .bells) (note x i)) at 0
+      → noteWord (phraseTable (ok x)) i at ≡ getD (noteRow (x .shift) (x .bells) (note x i)) at 0
   unfolding note-part
   note-word i at h g =
-      let rows : List ℕ = noteRows (x .bells) (x .notes) in
+      let rows : List ℕ = noteRows (x .shift) (x .bells) (x .notes) in
       let place : noteRowsAt + (i * noteWords + at) ≡ length (header x) + (length bell-part + (i * noteWords + at)) = omega (arith, bell-part-length) in
       (λ k. getD (parts k) (place k) 0)
       ∙ getD-append-add (header x) (bell-part ++ note-part) (length bell-part + (i * noteWords + at)) 0
       ∙ getD-append-add bell-part note-part (i * noteWords + at) 0
       ∙ List·getD-append rows (replicate (mostJobs * noteWords - length rows) 0) 0 (i * noteWords + at) (omega (arith, notes-length))
-      ∙ records-word (noteRow (x .bells)) noteWords (x .notes) noNote notes-wide i at h g
+      ∙ records-word (noteRow (x .shift) (x .bells)) noteWords (x .notes) noNote notes-wide i at h g
 
   -- The phrase is read back from its table.
   pub phrase-of : phraseOf (phraseTable (ok x)) ≡ x
   unfolding bell-part note-part
   phrase-of =
       let bells : List ℕ = bellRows (x .bells) in
-      let notes : List ℕ = noteRows (x .bells) (x .notes) in
+      let notes : List ℕ = noteRows (x .shift) (x .bells) (x .notes) in
       let after-bells : List ℕ = replicate (mostBells * bellWords - length bells) 0 in
       let after-notes : List ℕ = replicate (mostJobs * noteWords - length notes) 0 in
       let bells-read : bellsOfRows (bell-part ++ note-part) (length (x .bells)) ≡ x .bells =
@@ -131,5 +123,5 @@ module _ (x : Phrase) (v : Valid x) where
       ∙ rows-back bellRow bellOfRow bellWords (x .bells) (bell-rows.rows-read-back (x .bells)) (after-bells ++ note-part) in
       let notes-read : notesOfRows (drop (mostBells * bellWords) (bell-part ++ note-part)) (length (x .notes)) ≡ x .notes =
       ap (λ (t : List ℕ). notesOfRows t (length (x .notes))) (drop-at bell-part note-part (mostBells * bellWords) bell-part-length)
-      ∙ rows-back (noteRow (x .bells)) noteOfRow noteWords (x .notes) (note-rows.rows-read-back (x .bells) (x .notes) all-few) after-notes in
-      λ i. record { version = x .version; cores = x .cores; bells = bells-read i; notes = notes-read i }
+      ∙ rows-back (noteRow (x .shift) (x .bells)) noteOfRow noteWords (x .notes) (note-rows.rows-read-back (x .shift) (x .bells) (x .notes) all-few) after-notes in
+      λ i. record { version = x .version; cores = x .cores; shift = x .shift; bells = bells-read i; notes = notes-read i }

@@ -39,11 +39,11 @@ unfoldable pub noteRowOn : ℕ → Note → List ℕ
 noteRowOn bell n =
     n .key ∷ n .earliestRelease ∷ n .latestRelease ∷ n .deadline ∷ length (n .listed) ∷ padded mostListed (n .listed) ++ bell ∷ []
 
-abbrev pub noteRow : List Bell → Note → List ℕ
-noteRow bells n = noteRowOn (struck bells n) n
+abbrev pub noteRow : ℕ → List Bell → Note → List ℕ
+noteRow shift bells n = noteRowOn (struck shift bells n) n
 
-abbrev pub noteRows : List Bell → List Note → List ℕ
-noteRows bells = records (noteRow bells)
+abbrev pub noteRows : ℕ → List Bell → List Note → List ℕ
+noteRows shift bells = records (noteRow shift bells)
 
 -- the note whose row the words begin with
 abbrev pub noteOfRow : List ℕ → Note

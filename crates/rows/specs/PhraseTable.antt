@@ -23,9 +23,9 @@ bellCountWord = 2
 abbrev pub noteCountWord : ℕ
 noteCountWord = 3
 
--- a word for what later versions add; 0
-abbrev pub spareWord : ℕ
-spareWord = 4
+-- the shift, as the file's byte
+abbrev pub shiftWord : ℕ
+shiftWord = 4
 
 -- where the rows of the bells begin, and those of the notes
 abbrev pub bellRowsAt : ℕ
@@ -38,10 +38,10 @@ abbrev pub phraseWords : ℕ
 phraseWords = noteRowsAt + mostJobs * noteWords
 
 abbrev pub header : Phrase → List ℕ
-header x = x .version ∷ x .cores ∷ length (x .bells) ∷ length (x .notes) ∷ 0 ∷ []
+header x = x .version ∷ x .cores ∷ length (x .bells) ∷ length (x .notes) ∷ x .shift ∷ []
 
 abbrev pub phraseTable : Outcome Phrase → List ℕ
-phraseTable (ok x) = header x ++ (padded (mostBells * bellWords) (bellRows (x .bells)) ++ padded (mostJobs * noteWords) (noteRows (x .bells) (x .notes)))
+phraseTable (ok x) = header x ++ (padded (mostBells * bellWords) (bellRows (x .bells)) ++ padded (mostJobs * noteWords) (noteRows (x .shift) (x .bells) (x .notes)))
 phraseTable (refused n at) = replicate phraseWords 0
 
 -- The phrase that any table holds: its header says how many rows are read; derived and spare words are not.
@@ -50,6 +50,7 @@ phraseOf t =
     record {
       version = getD t versionWord 0;
       cores = getD t coresWord 0;
+      shift = getD t shiftWord 0;
       bells = bellsOfRows (drop bellRowsAt t) (getD t bellCountWord 0);
       notes = notesOfRows (drop noteRowsAt t) (getD t noteCountWord 0);
     }

@@ -26,8 +26,8 @@ pub const BELL_COUNT: usize = 2;
 
 pub const NOTE_COUNT: usize = 3;
 
-// For what later versions add.
-pub const SPARE: usize = 4;
+// As the file's byte.
+pub const SHIFT: usize = 4;
 
 // Where the rows of the bells begin, and those of the notes.
 pub const BELL_ROWS: usize = 5;

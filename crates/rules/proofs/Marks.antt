@@ -10,7 +10,7 @@ use lib.ListN.{length, getD, set, replicate}
 use lib.Seq.{getD-set-same, getD-set-other}
 use borrow.Author.Tests.{eq-eqb, eqb-true}
 use Rattle.model.proofs.Booleans.{cases}
-use Rattle.format.specs.Phrase.{Bell, sounding, findFrom, find, isSome}
+use Rattle.format.specs.Phrase.{Bell, sounding, findFrom, findSounding, isSome}
 use Rattle.rules.specs.internal.Asking.{mark, Sounded}
 
 -- What is told to be there is there.
@@ -28,8 +28,8 @@ marked true = refl
 marked false = refl
 
 -- A mark tells whether a bell sounds for its key.
-pub mark-tells : (bells : List Bell) (marks : List ℕ) → Sounded bells marks → (key : ℕ) → eqb (getD marks key 0) 1 ≡ isSome (find key bells)
-mark-tells bells marks s key = ap (λ (m : ℕ). eqb m 1) (s key) ∙ marked (isSome (find key bells))
+pub mark-tells : (bells : List Bell) (marks : List ℕ) → Sounded bells marks → (key : ℕ) → eqb (getD marks key 0) 1 ≡ isSome (findSounding key bells)
+mark-tells bells marks s key = ap (λ (m : ℕ). eqb m 1) (s key) ∙ marked (isSome (findSounding key bells))
 
 zeros : (n key : ℕ) → _≡_ {A = ℕ} (getD (replicate n 0) key 0) 0
 zeros zero key = refl
@@ -70,17 +70,17 @@ pub sounded-more : (bells : List Bell) (b : Bell) (marks : List ℕ) → Sounded
     → Sounded (bells ++ b ∷ []) (set marks (sounding b) 1)
 sounded-more bells b marks s h key = go (cases (eqb (sounding b) key))
   where
-    there : isSome (find key (bells ++ b ∷ [])) ≡ (isSome (find key bells) || eqb (sounding b) key)
+    there : isSome (findSounding key (bells ++ b ∷ [])) ≡ (isSome (findSounding key bells) || eqb (sounding b) key)
     there = found-more key 0 bells b
 
-    go : (eqb (sounding b) key ≡ true) ⊎ (eqb (sounding b) key ≡ false) → getD (set marks (sounding b) 1) key 0 ≡ mark (isSome (find key (bells ++ b ∷ [])))
+    go : (eqb (sounding b) key ≡ true) ⊎ (eqb (sounding b) key ≡ false) → getD (set marks (sounding b) 1) key 0 ≡ mark (isSome (findSounding key (bells ++ b ∷ [])))
     go (inl e) =
         let same : sounding b ≡ key = eqb-true (sounding b) key e in
         let one : getD (set marks (sounding b) 1) key 0 ≡ 1 =
         ap (λ (k : ℕ). getD (set marks (sounding b) 1) k 0) (sym same) ∙ getD-set-same marks (sounding b) 1 0 h in
-        one ∙ ap mark (sym (there ∙ ap (λ (t : Bool). isSome (find key bells) || t) e ∙ or-true (isSome (find key bells))))
+        one ∙ ap mark (sym (there ∙ ap (λ (t : Bool). isSome (findSounding key bells) || t) e ∙ or-true (isSome (findSounding key bells))))
     go (inr e) =
         let other : key ≡ sounding b → ⊥ = λ q. true≢false (sym (eq-eqb (sounding b) key (sym q)) ∙ e) in
         getD-set-other marks (sounding b) key 1 0 other
         ∙ s key
-        ∙ ap mark (sym (there ∙ ap (λ (t : Bool). isSome (find key bells) || t) e ∙ or-false (isSome (find key bells))))
+        ∙ ap mark (sym (there ∙ ap (λ (t : Bool). isSome (findSounding key bells) || t) e ∙ or-false (isSome (findSounding key bells))))

@@ -25,11 +25,11 @@ module _ (r : List ℕ) (wide : noteWords ≤ length r) where
   listed-long h = omega (arith, length-take (getD r listedCountWord 0) (drop listedWord r), length-drop listedWord r)
 
 -- ---- the rules
-module _ (bells : List Bell) (own at : ℕ) (n : Note) where
+module _ (shift : ℕ) (bells : List Bell) (own at : ℕ) (n : Note) where
   -- A note that lists too many is refused.
-  pub crowded : mostListed < length (n .listed) → noteAsked bells own at n ≡ refused wrongNoteLength at
-  crowded h = ap (λ (t : Bool). _>>_ (require t wrongNoteLength at) (noteRules bells own at n)) (lt-leb (length (n .listed)) mostListed h)
+  pub crowded : mostListed < length (n .listed) → noteAsked shift bells own at n ≡ refused wrongNoteLength at
+  crowded h = ap (λ (t : Bool). _>>_ (require t wrongNoteLength at) (noteRules shift bells own at n)) (lt-leb (length (n .listed)) mostListed h)
 
   -- Any other has its rules.
-  pub roomy : length (n .listed) ≤ mostListed → noteAsked bells own at n ≡ noteRules bells own at n
-  roomy h = ap (λ (t : Bool). _>>_ (require t wrongNoteLength at) (noteRules bells own at n)) (le-leb (length (n .listed)) mostListed h)
+  pub roomy : length (n .listed) ≤ mostListed → noteAsked shift bells own at n ≡ noteRules shift bells own at n
+  roomy h = ap (λ (t : Bool). _>>_ (require t wrongNoteLength at) (noteRules shift bells own at n)) (le-leb (length (n .listed)) mostListed h)

@@ -22,21 +22,21 @@ use Rattle.rules.specs.internal.Asking.{noteAsked}
 use Rattle.rules.proofs.NoteAsked.{listed-long, crowded}
 
 -- The note of a row that is cut off after its width has the same rules.
-pub asked-lent : (bells : List Bell) (own at : ℕ) (t : List ℕ) → noteWords ≤ length t
-    → noteAsked bells own at (noteOfRow (take noteWords t)) ≡ noteAsked bells own at (noteOfRow t)
-asked-lent bells own at t h = go (cases (leb (getD t listedCountWord 0) mostListed))
+pub asked-lent : (shift : ℕ) (bells : List Bell) (own at : ℕ) (t : List ℕ) → noteWords ≤ length t
+    → noteAsked shift bells own at (noteOfRow (take noteWords t)) ≡ noteAsked shift bells own at (noteOfRow t)
+asked-lent shift bells own at t h = go (cases (leb (getD t listedCountWord 0) mostListed))
   where
     same : getD (take noteWords t) listedCountWord 0 ≡ getD t listedCountWord 0
     same = getD-take noteWords t listedCountWord 0 (omega arith)
 
     go : (leb (getD t listedCountWord 0) mostListed ≡ true) ⊎ (leb (getD t listedCountWord 0) mostListed ≡ false)
-        → noteAsked bells own at (noteOfRow (take noteWords t)) ≡ noteAsked bells own at (noteOfRow t)
-    go (inl e) = ap (noteAsked bells own at) (note-of-row t (leb-true (getD t listedCountWord 0) mostListed e))
+        → noteAsked shift bells own at (noteOfRow (take noteWords t)) ≡ noteAsked shift bells own at (noteOfRow t)
+    go (inl e) = ap (noteAsked shift bells own at) (note-of-row t (leb-true (getD t listedCountWord 0) mostListed e))
     go (inr e) =
         let many : mostListed < getD t listedCountWord 0 = leb-false (getD t listedCountWord 0) mostListed e in
         let cut : noteWords ≤ length (take noteWords t) = omega (arith, length-take noteWords t) in
-        crowded bells own at (noteOfRow (take noteWords t)) (listed-long (take noteWords t) cut (omega (arith, same)))
-        ∙ sym (crowded bells own at (noteOfRow t) (listed-long t h many))
+        crowded shift bells own at (noteOfRow (take noteWords t)) (listed-long (take noteWords t) cut (omega (arith, same)))
+        ∙ sym (crowded shift bells own at (noteOfRow t) (listed-long t h many))
 
 -- No notes take no bytes.
 pub no-bytes : (notes : List Note) → length (records (noteFile first) (take 0 notes)) ≡ 0

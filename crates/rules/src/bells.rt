@@ -3,9 +3,11 @@ ghost use mathlib.Core.Path.{_≡_};
 ghost use mathlib.Core.List.{List, [], _∷_, _++_};
 ghost use Prim.Native.Nat.{_≤_, _<_};
 ghost use lib.ListN.{length, drop};
-ghost use Rattle.format.specs.Layout.{first, bellsAt, mostBells};
+ghost use Rattle.format.specs.Layout.{first, mostBells, longestFile};
 ghost use Rattle.format.specs.Phrase.{Bell};
 ghost use Rattle.format.specs.Rules.{highestKey, bellRules, bellsRules, allBells};
+ghost use Rattle.format.specs.internal.Sized.{Sized};
+ghost use Rattle.fields.specs.internal.Layouts.{layoutOf};
 ghost use Rattle.rows.specs.BellRow.{bellWords, bellOfRow, bellsOfRows};
 ghost use Rattle.rows.specs.PhraseTable.{bellRowsAt, phraseWords, phraseOf};
 ghost use Rattle.records.specs.internal.Answers.{readingOf};
@@ -13,8 +15,9 @@ ghost use Rattle.records.specs.declared.answers.Reading.the-variants.{Whole};
 ghost use Rattle.rules.specs.internal.Asking.{Sounded};
 use crate::sounded::is_sounded;
 use fields::layout::BELL_BYTES;
-use fields::layout::BELL_COUNT_AT;
-use fields::layout::BELLS_AT;
+use fields::layout::Layout;
+use fields::layout::bell_count_at;
+use fields::layout::bells_at;
 use fields::rules::is_bell;
 use fields::rules::is_within;
 use fields::rules::transposed;
@@ -59,13 +62,13 @@ fn ask_bell(row: &[u32], at: usize, sounded: &mut [u8]) -> Reading
     Reading::Whole
 }
 
-// The rules of the first n bells.
-fn bells_from(phrase: &[u32], n: usize, sounded: &mut [u8]) -> Reading
-    requires { ⌜ (phraseWords ≤ length (now phrase)) × (n ≤ mostBells) × (highestKey < length (now sounded)) × Sounded [] (now sounded) ⌝ }
-    ensures { λ r. ⌜ r ≡ readingOf (bellsRules first (bellsOfRows (drop bellRowsAt (now (phrase .entry))) n) (bellsAt first) []) ⌝ }
+// The rules of the first n bells, from `start` on.
+fn bells_from(phrase: &[u32], start: usize, n: usize, sounded: &mut [u8]) -> Reading
+    requires { ⌜ (phraseWords ≤ length (now phrase)) × (start ≤ longestFile) × (n ≤ mostBells) × (highestKey < length (now sounded)) × Sounded [] (now sounded) ⌝ }
+    ensures { λ r. ⌜ r ≡ readingOf (bellsRules first (bellsOfRows (drop bellRowsAt (now (phrase .entry))) n) start []) ⌝ }
     ensures { λ r. ⌜ (r ≡ Whole → Sounded (bellsOfRows (drop bellRowsAt (now (phrase .entry))) n) (now (sounded .exit))) ⌝ }
 {
-    let mut at = BELLS_AT;
+    let mut at = start;
     let mut i = 0;
     while i < n {
         let from = BELL_ROWS + i * BELL_WORDS;
@@ -80,14 +83,14 @@ fn bells_from(phrase: &[u32], n: usize, sounded: &mut [u8]) -> Reading
 }
 
 // The rules of the bell count and of the bells.
-pub fn ask_bells(phrase: &[u32; PHRASE_WORDS], sounded: &mut [u8]) -> Reading
-    requires { ⌜ (highestKey < length (now sounded)) × Sounded [] (now sounded) ⌝ }
-    ensures { λ r. ⌜ r ≡ readingOf (allBells first (phraseOf (now (phrase .entry)) .bells)) ⌝ }
+pub fn ask_bells(phrase: &[u32; PHRASE_WORDS], l: Layout, sounded: &mut [u8]) -> Reading
+    requires { ⌜ Sized (layoutOf l) × (highestKey < length (now sounded)) × Sounded [] (now sounded) ⌝ }
+    ensures { λ r. ⌜ r ≡ readingOf (allBells (layoutOf l) (phraseOf (now (phrase .entry)) .bells)) ⌝ }
     ensures { λ r. ⌜ (r ≡ Whole → Sounded (phraseOf (now (phrase .entry)) .bells) (now (sounded .exit))) ⌝ }
 {
     let count = phrase[BELL_COUNT];
     if !is_within(1, MOST_BELLS as u32, count) {
-        return Reading::Refused(WRONG_BELL_COUNT, BELL_COUNT_AT);
+        return Reading::Refused(WRONG_BELL_COUNT, bell_count_at(l));
     }
-    bells_from(phrase, count as usize, sounded)
+    bells_from(phrase, bells_at(l), count as usize, sounded)
 }

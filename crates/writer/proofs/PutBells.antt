@@ -5,7 +5,7 @@ use mathlib.Core.List.{List}
 use native.Mathlib.Omega.{arith}
 use lib.ListN.{length, getD, take, drop}
 use borrow.Rule.Slice.PartMut.{putMid}
-use Rattle.format.specs.Layout.{first, bellsAt, bellBytes}
+use Rattle.format.specs.Layout.{first, bellBytes}
 use Rattle.format.specs.Phrase.{Bell}
 use Rattle.format.specs.Jobs.{noBell}
 use Rattle.format.specs.Writing.{bellFile}
@@ -24,8 +24,8 @@ module _ (t : List ℕ) (n : ℕ) where
   bells = bellsOfRows (drop bellRowsAt t) n
 
   -- where the record of bell i begins
-  abbrev pub bellPlace : ℕ → ℕ
-  bellPlace = place (bellFile first) bells (bellsAt first)
+  abbrev pub bellPlace : ℕ → ℕ → ℕ
+  bellPlace = place (bellFile first) bells
 
   -- There are n of them.
   pub bells-count : length bells ≡ n
@@ -51,29 +51,29 @@ module _ (t : List ℕ) (n : ℕ) where
       bell-fits = subst (BellFits first) (sym same-bell) fits-at
 
       -- A part that came back as its record is one record more.
-      pub bell-put : (file : List ℕ) → bellsAt first ≤ length file → (at k : ℕ) → at ≡ bellPlace i → k ≡ bellBytes first → (ws : List ℕ)
+      pub bell-put : (start : ℕ) (file : List ℕ) → start ≤ length file → (at k : ℕ) → at ≡ bellPlace start i → k ≡ bellBytes first → (ws : List ℕ)
           → ws ≡ bellFile first lent
-          → putMid at k (put (bellFile first) bells (bellsAt first) file i) ws ≡ put (bellFile first) bells (bellsAt first) file (i + 1)
-      bell-put file g at k p q ws r =
+          → putMid at k (put (bellFile first) bells start file i) ws ≡ put (bellFile first) bells start file (i + 1)
+      bell-put start file g at k p q ws r =
           let same : ws ≡ bellFile first (getD bells i noBell) = r ∙ ap (bellFile first) same-bell in
-          put-more (bellFile first) bells (bellsAt first) file g noBell i below ws same at k p
+          put-more (bellFile first) bells start file g noBell i below ws same at k p
           (ap length same ∙ bell-size first (getD bells i noBell) ∙ sym q)
 
     -- The record of bell i ends where the next one begins.
-    pub bell-next : bellPlace (i + 1) ≡ bellPlace i + bellBytes first
-    bell-next =
+    pub bell-next : (start : ℕ) → bellPlace start (i + 1) ≡ bellPlace start i + bellBytes first
+    bell-next start =
         omega (
           arith,
-          place-next (bellFile first) bells (bellsAt first) noBell i below,
+          place-next (bellFile first) bells start noBell i below,
           bell-size first (getD bells i noBell),
         )
 
     -- It ends before the number of notes.
-    pub bell-within : bellPlace i + bellBytes first ≤ bellsAt first + n * bellBytes first
-    bell-within =
+    pub bell-within : (start : ℕ) → bellPlace start i + bellBytes first ≤ start + n * bellBytes first
+    bell-within start =
         omega (
           arith,
-          place-within (bellFile first) bells (bellsAt first) noBell i below,
+          place-within (bellFile first) bells start noBell i below,
           bell-size first (getD bells i noBell),
           bells-size first bells,
           bells-count,

@@ -5,7 +5,7 @@ ghost use lib.ListN.{length, drop};
 ghost use Rattle.model.specs.Limits.{mostJobs};
 ghost use Rattle.words.specs.internal.Placed.{placed};
 ghost use Rattle.format.specs.Bytes.{records};
-ghost use Rattle.format.specs.Layout.{first, bellsAt, bellBytes, mostBells};
+ghost use Rattle.format.specs.Layout.{first, bellBytes, mostBells};
 ghost use Rattle.format.specs.Valid.{Valid};
 ghost use Rattle.format.specs.Writing.{bellFile, noteFile, written};
 ghost use Rattle.rows.specs.BellRow.{bellsOfRows};
@@ -17,28 +17,30 @@ use encoding::head::put_head;
 use encoding::notes::put_note;
 use encoding::numbers::put_8;
 use fields::layout::BELL_BYTES;
-use fields::layout::BELLS_AT;
 use fields::layout::NOTE_BYTES;
-use records::bells::note_count_at;
+use fields::layout::bells_at;
+use fields::layout::layout_of;
+use fields::layout::note_count_at;
 use rows::BELL_COUNT;
 use rows::BELL_ROWS;
 use rows::CORES;
 use rows::NOTE_COUNT;
 use rows::NOTE_ROWS;
 use rows::PHRASE_WORDS;
+use rows::SHIFT;
 use rows::VERSION;
 use rows::bell::BELL_WORDS;
 use rows::note::LISTED_COUNT;
 use rows::note::NOTE_WORDS;
 
-// The records of the first n bells.
-fn put_bells(phrase: &[u32], n: usize, file: &mut [u8])
-    requires { ⌜ (phraseWords ≤ length (now phrase)) × (n ≤ mostBells) × (bellsAt first + n * bellBytes first ≤ length (now file))
+// The records of the first n bells, from `start` on.
+fn put_bells(phrase: &[u32], start: usize, n: usize, file: &mut [u8])
+    requires { ⌜ (phraseWords ≤ length (now phrase)) × (n ≤ mostBells) × (start + n * bellBytes first ≤ length (now file))
         × BellsFit (bellsOfRows (drop bellRowsAt (now phrase)) n) ⌝ }
-    ensures { λ _. ⌜ now (file .exit) ≡ placed (now (file .entry)) (bellsAt first)
+    ensures { λ _. ⌜ now (file .exit) ≡ placed (now (file .entry)) start
         (records (bellFile first) (bellsOfRows (drop bellRowsAt (now (phrase .entry))) n)) ⌝ }
 {
-    let mut at = BELLS_AT;
+    let mut at = start;
     let mut i = 0;
     while i < n {
         let from = BELL_ROWS + i * BELL_WORDS;
@@ -76,17 +78,22 @@ pub fn put_file(phrase: &[u32; PHRASE_WORDS], file: &mut [u8])
     requires { ⌜ Valid (phraseOf (now phrase)) × (length (now file) ≡ length (written (phraseOf (now phrase)))) ⌝ }
     ensures { λ _. ⌜ now (file .exit) ≡ written (phraseOf (now (phrase .entry))) ⌝ }
 {
+    let version = phrase[VERSION];
+    let l = layout_of(version);
+    let first = bells_at(l);
     let bells = phrase[BELL_COUNT];
     let size = file.len() as u32;
     put_head(
-        &mut file[..BELLS_AT],
-        phrase[VERSION],
+        &mut file[..first],
+        l,
+        version,
         size,
         phrase[CORES],
+        phrase[SHIFT],
         bells,
     );
-    put_bells(phrase, bells as usize, file);
-    let at = note_count_at(bells as usize);
+    put_bells(phrase, first, bells as usize, file);
+    let at = note_count_at(l, bells as usize);
     let count = phrase[NOTE_COUNT];
     put_8(file, at, count);
     put_notes(phrase, at + 1, count as usize, file);

@@ -1,20 +1,25 @@
 //! Writes the stored vectors: FOLDER/stdin with phrase files, each after the words of its table, the bytes of its text buffer and its own length, two bytes
 //! each, and FOLDER/stdout with what the program `report_examples` has to print for them. The first are worked by hand from document 01; the others are drawn,
-//! and this checker says what is due.
+//! and this checker says what is due. Then the same for version 2 of the phrase file.
 //!
 //!     cargo run --offline --manifest-path reference/Cargo.toml --bin vectors crates/report_examples
 
 use std::fs;
 use std::path::Path;
 
-use reference::examples::{P, P_REPORT, m6, m8, p_with};
+use reference::examples::{
+    P, P_LOWER_REPORT, P_REPORT, P_SHIFTED, m6, m8, outermost_bells, p_lower, p_with,
+    refused_of_version_2,
+};
 use reference::printed::result;
-use reference::random::{Generator, case};
+use reference::random::{Case, Generator, case, shifted_case};
 use reference::report::report;
 
 const SEED: u64 = 7;
 /// The program reads no more than this.
 const MOST_INPUT: usize = 65_536;
+/// The part of it that is kept for version 2.
+const VERSION_2_INPUT: usize = 8_192;
 const MOST_WORDS: usize = 16_384;
 const MOST_TEXT: usize = 8_192;
 
@@ -32,63 +37,106 @@ fn main() {
 }
 
 fn vectors() -> (Vec<u8>, String) {
-    let (mut input, mut output) = (Vec::new(), String::new());
-    for (example, printed) in by_hand() {
-        input.extend(framed(&example));
-        output += &printed;
-    }
+    let mut vectors = Vectors::default();
     let mut random = Generator::new(SEED);
-    for number in 0.. {
-        let drawn = case(SEED, number);
-        if MOST_WORDS < drawn.table_words {
-            continue;
-        }
-        let example = Example {
-            table_words: drawn.table_words,
-            text_bytes: text_bytes(&mut random, &drawn.file, drawn.table_words),
-            file: drawn.file,
-        };
-        let framed = framed(&example);
-        if MOST_INPUT < input.len() + framed.len() {
-            break;
-        }
-        input.extend(framed);
-        output += &printed(&example);
-    }
-    (input, output)
+    vectors.add_all(by_hand());
+    vectors.add_drawn(&mut random, case, MOST_INPUT - VERSION_2_INPUT);
+    vectors.add_all(by_hand_of_version_2());
+    vectors.add_drawn(&mut random, shifted_case, MOST_INPUT);
+    (vectors.input, vectors.output)
 }
 
-/// Buffers that a text fits, exactly or with room to spare, and buffers that are one byte too short for it or more: 15, for which nothing is written, and
-/// nothing but zeros stands beside it.
+#[derive(Default)]
+struct Vectors {
+    input: Vec<u8>,
+    output: String,
+}
+
+impl Vectors {
+    fn add_all(&mut self, examples: Vec<(Example, String)>) {
+        for (example, printed) in examples {
+            self.input.extend(framed(&example));
+            self.output += &printed;
+        }
+    }
+
+    /// Cases of a stream, until the next one would make the input longer than this.
+    fn add_drawn(&mut self, random: &mut Generator, case: fn(u64, u64) -> Case, most: usize) {
+        for number in 0.. {
+            let drawn = case(SEED, number);
+            if MOST_WORDS < drawn.table_words {
+                continue;
+            }
+            let example = Example {
+                table_words: drawn.table_words,
+                text_bytes: text_bytes(random, &drawn.file, drawn.table_words),
+                file: drawn.file,
+            };
+            let framed = framed(&example);
+            if most < self.input.len() + framed.len() {
+                break;
+            }
+            self.input.extend(framed);
+            self.output += &printed(&example);
+        }
+    }
+}
+
+const NOTHING: &str = "earliest, clear\nlatest, clear\nbest, clear\nworst, clear\n";
+
+/// A file with buffers that its text fits, exactly or with room to spare, and with buffers that are one byte too short for it or more: 15, for which nothing
+/// is written, and nothing but zeros stands beside it.
+fn in_buffers(
+    file: &[u8],
+    table_words: usize,
+    short: &[usize],
+    fitting: &[usize],
+    printed: &str,
+) -> Vec<(Example, String)> {
+    let too_short =
+        format!("length 0, rest unchanged\nrefused 15 at 0, jobs 0, states 0\n{NOTHING}");
+    let with = |text_bytes: usize, printed: &str| {
+        let example = Example {
+            table_words,
+            text_bytes,
+            file: file.to_vec(),
+        };
+        (example, printed.to_string())
+    };
+    let short = short.iter().map(|&bytes| with(bytes, &too_short));
+    let fitting = fitting.iter().map(|&bytes| with(bytes, printed));
+    short.chain(fitting).collect()
+}
+
+/// What is printed for P's strokes, which end and respond alike wherever they sound.
+fn p_printed(text: &str) -> String {
+    format!(
+        "{text}length 141, rest unchanged\naccepted, jobs 2, states 4\n\
+         earliest 2 4, clear\nlatest 7 6, clear\nbest 2 4, clear\nworst 7 6, clear\n"
+    )
+}
+
+/// What is printed for a refusal of reading, and the length of its line.
+fn refused_printed(number: u64, place: u64) -> (String, usize) {
+    let line = format!("refused {number} at {place}");
+    let length = line.len() + 1;
+    let printed =
+        format!("{line}\nlength {length}, rest unchanged\n{line}, jobs 0, states 0\n{NOTHING}");
+    (printed, length)
+}
+
 fn by_hand() -> Vec<(Example, String)> {
-    const NOTHING: &str = "earliest, clear\nlatest, clear\nbest, clear\nworst, clear\n";
     let mut all = Vec::new();
     let mut add = |file: &[u8], table_words, short: &[usize], fitting: &[usize], printed: &str| {
-        for &text_bytes in short.iter().chain(fitting) {
-            let example = Example {
-                table_words,
-                text_bytes,
-                file: file.to_vec(),
-            };
-            let printed = if short.contains(&text_bytes) {
-                format!("length 0, rest unchanged\nrefused 15 at 0, jobs 0, states 0\n{NOTHING}")
-            } else {
-                printed.to_string()
-            };
-            all.push((example, printed));
-        }
+        all.extend(in_buffers(file, table_words, short, fitting, printed));
     };
 
-    let printed = format!(
-        "{P_REPORT}length 141, rest unchanged\naccepted, jobs 2, states 4\n\
-         earliest 2 4, clear\nlatest 7 6, clear\nbest 2 4, clear\nworst 7 6, clear\n"
-    );
     add(
         &P,
         16_384,
         &[10, 140, 1, 0],
         &[141, 142, MOST_TEXT],
-        &printed,
+        &p_printed(P_REPORT),
     );
     let printed = "\
 stroke 0 key C0 bell 0 ends 2..4 response 2..4 due 3600000
@@ -103,9 +151,7 @@ best 2 3 2, clear
 worst 4 5 3, clear
 ";
     add(&m6(), 16_384, &[212, 0], &[213], printed);
-    let printed = format!(
-        "refused 4 at 5\nlength 15, rest unchanged\nrefused 4 at 5, jobs 0, states 0\n{NOTHING}"
-    );
+    let (printed, _) = refused_printed(4, 5);
     add(&[1, 0, 0, 0, 1, 0], 0, &[14, 0], &[15, 16], &printed);
     let printed = format!(
         "refused 13 level 1\nlength 19, rest unchanged\nrefused 13 at 1, jobs 0, states 0\n{NOTHING}"
@@ -119,6 +165,37 @@ worst 4 5 3, clear
         "accepted strokes 0 states 1 hold 0\nlength 35, rest unchanged\naccepted, jobs 0, states 1\n{NOTHING}"
     );
     add(&m8(), 8, &[34, 0], &[35, 36], &printed);
+    all
+}
+
+fn by_hand_of_version_2() -> Vec<(Example, String)> {
+    let printed = p_printed(P_REPORT);
+    let mut all = in_buffers(&P_SHIFTED, 16_384, &[140], &[141], &printed);
+    let printed = p_printed(P_LOWER_REPORT);
+    all.extend(in_buffers(&p_lower(), 32, &[140], &[141], &printed));
+
+    // Written above 119 or below 12, and shifted to the highest and the lowest bell.
+    for (key, shift, sounds) in [
+        (143, -24, "B8 bell 1"),
+        (120, -1, "B8 bell 1"),
+        (95, 24, "B8 bell 1"),
+        (36, -24, "C0 bell 0"),
+        (11, 1, "C0 bell 0"),
+        (0, 12, "C0 bell 0"),
+    ] {
+        let printed = format!(
+            "stroke 0 key {sounds} ends 1..1 response 1..1 due 3600000\naccepted strokes 1 states 2 hold 1\n\
+             length 94, rest unchanged\naccepted, jobs 1, states 2\n\
+             earliest 1, clear\nlatest 1, clear\nbest 1, clear\nworst 1, clear\n"
+        );
+        let file = outermost_bells(key, shift);
+        all.extend(in_buffers(&file, 24, &[], &[94], &printed));
+    }
+
+    for (file, number, place) in refused_of_version_2() {
+        let (printed, length) = refused_printed(number, place);
+        all.extend(in_buffers(&file, 0, &[], &[length], &printed));
+    }
     all
 }
 
@@ -156,7 +233,7 @@ mod tests {
 
     #[test]
     fn this_checker_gives_what_is_worked_by_hand() {
-        for (example, expected) in by_hand() {
+        for (example, expected) in by_hand().into_iter().chain(by_hand_of_version_2()) {
             assert_eq!(printed(&example), expected);
         }
     }

@@ -1,7 +1,8 @@
 //! Files with something wrong, or at a limit and still right.
 
-use super::Generator;
+use super::shifted::damage_shift;
 use super::valid::{self, Shape};
+use super::{Generator, Versioned};
 use crate::draft::{Draft, DraftBell, DraftNote, correct_count};
 
 /// Enough of everything to damage, and cheap to walk where the damage does no harm.
@@ -17,8 +18,9 @@ const SHAPE: Shape = Shape {
     waiting: 50,
 };
 
-pub fn damaged(random: &mut Generator) -> Vec<u8> {
+pub(super) fn damaged(random: &mut Generator, versioned: Versioned) -> Vec<u8> {
     let draft = valid::draft(random, &SHAPE);
+    let draft = versioned(random, draft);
     harmed(random, draft)
 }
 
@@ -37,13 +39,21 @@ pub(super) fn harmed(random: &mut Generator, mut draft: Draft) -> Vec<u8> {
     let mut file = draft.bytes();
     if random.chance(1, 20) {
         disturb(random, &mut file);
+    } else if draft.shift.is_some() && random.chance(1, 5) {
+        // A rule of the head may be broken, and nothing follows.
+        file.truncate(random.range(6, 8) as usize);
+        correct_count(&mut file, 0);
     }
     file
 }
 
 fn damage(random: &mut Generator, draft: &mut Draft) {
+    if draft.shift.is_some() && random.chance(1, 3) {
+        return damage_shift(random, draft);
+    }
     match random.below(14) {
-        0 => draft.version = random.pick(&[0, 2, 3, 255]),
+        // 3 would be the next one, and is twice as frequent.
+        0 => draft.version = random.pick(&[0, 3, 3, 255]),
         1 => draft.count_error = random.pick(&[1, u32::MAX, 5, 256, 65_536, 1 << 24]),
         2 => draft.drivers = random.pick(&[0, 1, 8, 9, 255]),
         3 => damage_bell_count(random, draft),
@@ -133,7 +143,8 @@ fn damage_stroke_count(random: &mut Generator, draft: &mut Draft) {
     // So many notes in truth: 64 may be right, 65 is one too many.
     let wanted = random.pick(&[63, 64, 65]);
     let bell = &draft.bells[0];
-    let key = bell.written.wrapping_add_signed(bell.transposition);
+    let sounding = bell.written.wrapping_add_signed(bell.transposition);
+    let key = sounding.wrapping_sub(draft.shift.unwrap_or(0) as u8);
     while draft.notes.len() < wanted {
         draft
             .notes
@@ -214,7 +225,10 @@ fn disturb(random: &mut Generator, file: &mut Vec<u8>) {
             file[at] ^= 1 << random.below(8);
             return;
         }
-        2 => file.truncate(any(random, 7).min(file.len())),
+        2 => {
+            let head = if file[0] == 2 { 8 } else { 7 };
+            file.truncate(any(random, head).min(file.len()));
+        }
         3 => file.truncate(any(random, file.len())),
         4 => {
             for _ in 0..random.range(1, 5) {

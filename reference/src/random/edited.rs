@@ -3,9 +3,10 @@
 
 use std::array;
 
-use super::Generator;
 use super::large::distinct;
+use super::shifted::key_near;
 use super::valid::{self, Shape};
+use super::{Generator, Versioned};
 use crate::draft::{Draft, DraftNote};
 use crate::reading::MOST_WAITS;
 use crate::writing::{EditedBell, EditedNote, EditedPhrase, file_length};
@@ -30,12 +31,13 @@ pub struct EditedCase {
     pub room: usize,
 }
 
-pub fn edited(random: &mut Generator) -> EditedCase {
+pub(super) fn edited(random: &mut Generator, versioned: Versioned) -> EditedCase {
     let draft = if random.chance(1, 8) {
         longest(random)
     } else {
         valid::unwalked(random)
     };
+    let draft = versioned(random, draft);
     let mut phrase = EditedPhrase::from(&draft);
     fill_rest(random, &mut phrase);
     if random.chance(3, 4) {
@@ -106,9 +108,12 @@ fn fill_rest(random: &mut Generator, phrase: &mut EditedPhrase) {
 
 /// One field, or two that belong together, at a limit, beyond it or too wide.
 fn break_phrase(random: &mut Generator, phrase: &mut EditedPhrase) {
+    if phrase.version == 2 && random.chance(1, 4) {
+        return break_shift(random, phrase);
+    }
     let beside = |count: u32| [count.saturating_sub(1), count.saturating_add(1)];
     match random.below(20) {
-        0 => phrase.version = wrong(random, phrase.version, &[0, 2, 3, 255, 256]),
+        0 => phrase.version = wrong(random, phrase.version, &[0, 3, 3, 255, 256]),
         1 => phrase.drivers = wrong(random, phrase.drivers, &[0, 1, 8, 9, 255, 256]),
         2 => {
             let [fewer, more] = beside(phrase.bell_count);
@@ -125,6 +130,30 @@ fn break_phrase(random: &mut Generator, phrase: &mut EditedPhrase) {
         _ if phrase.notes().is_empty() => {}
         _ => break_note(random, phrase),
     }
+}
+
+/// The shift, or the version that has a byte for it, or a note's key.
+fn break_shift(random: &mut Generator, phrase: &mut EditedPhrase) {
+    match random.below(8) {
+        0 | 1 => phrase.version = 1,
+        2..=4 => {
+            let extended = sign_extended(phrase.shift);
+            let others = [0, 24, 25, 127, 128, 231, 232, 256, extended];
+            phrase.shift = wrong(random, phrase.shift, &others);
+        }
+        _ if phrase.notes().is_empty() => {}
+        _ => break_key(random, phrase),
+    }
+}
+
+/// As in a file, but cut to a byte or to a word.
+fn break_key(random: &mut Generator, phrase: &mut EditedPhrase) {
+    let signed = |byte: u32| i64::from(byte as i8);
+    let sounding = |bell: &EditedBell| i64::from(bell.written) + signed(bell.transposition);
+    let bells: Vec<i64> = phrase.bells().iter().map(sounding).collect();
+    let key = key_near(random, &bells, signed(phrase.shift));
+    let number = row(random, phrase.notes().len());
+    phrase.notes[number].key = random.pick(&[key as u32, key as u32 & 0xFF]);
 }
 
 /// Another value: one of these, the greatest, or a value too wide for a byte with the right low byte.
@@ -197,8 +226,8 @@ const AT_LIMITS: [(u32, u32); 8] = [
 ];
 
 /// A signed byte as a C program may pass it by mistake: -3 as 4294967293.
-fn sign_extended(transposition: u32) -> u32 {
-    i32::from(transposition as i8) as u32
+fn sign_extended(byte: u32) -> u32 {
+    i32::from(byte as i8) as u32
 }
 
 /// Both holds too wide, so that they are still in order, or the longer one.

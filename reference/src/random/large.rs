@@ -2,7 +2,7 @@
 //! thousands of states, each with a table near what it takes.
 
 use super::valid::{self, Shape};
-use super::{Case, Generator, around, damaged};
+use super::{Case, Generator, Versioned, around, damaged};
 use crate::check::HOST_WORDS;
 use crate::draft::{Draft, DraftNote};
 use crate::range::Range;
@@ -43,7 +43,7 @@ struct Measured {
 }
 
 /// Large in all ways; levels have up to some hundreds of states.
-pub fn large(random: &mut Generator) -> Case {
+pub fn large(random: &mut Generator, versioned: Versioned) -> Case {
     let (strokes, bells) = large_group(random);
     let Measured { draft, pair, walk } = measured(random, strokes, bells);
     let table_words = match random.below(8) {
@@ -58,6 +58,7 @@ pub fn large(random: &mut Generator) -> Case {
         Outcome::Accepted { ends, .. } => with_dues(random, draft, &ends),
         _ => draft,
     };
+    let draft = versioned(random, draft);
     let file = if random.chance(1, 4) {
         broken(random, draft)
     } else {

@@ -2,7 +2,7 @@
 //! too.
 
 use super::edited::{longest, row};
-use super::{Generator, damaged, large, scenario, valid};
+use super::{Generator, Versioned, damaged, large, scenario, valid};
 use crate::dispatch::Scenario;
 use crate::draft::{Draft, correct_count, playing_bytes};
 use crate::range::Range;
@@ -16,8 +16,8 @@ pub struct PlayedCase {
     pub playing: Vec<u8>,
 }
 
-pub fn played(random: &mut Generator) -> PlayedCase {
-    let file = any_file(random);
+pub(super) fn played(random: &mut Generator, versioned: Versioned) -> PlayedCase {
+    let file = any_file(random, versioned);
     let Ok(phrase) = read(&file) else {
         let playing = for_any_phrase(random);
         return PlayedCase { file, playing };
@@ -34,13 +34,14 @@ pub fn played(random: &mut Generator) -> PlayedCase {
 
 /// Valid but for some large ones. Those that nothing is walked for are the quickest to draw; what the check would say of
 /// them does not matter here.
-fn any_file(random: &mut Generator) -> Vec<u8> {
-    match random.below(40) {
-        0 => large::large(random).file,
-        1 => longest(random).bytes(),
-        2..=16 => valid::valid(random),
-        _ => valid::unwalked(random).bytes(),
-    }
+fn any_file(random: &mut Generator, versioned: Versioned) -> Vec<u8> {
+    let draft = match random.below(40) {
+        0 => return large::large(random, versioned).file,
+        1 => longest(random),
+        2..=16 => return valid::valid(random, versioned),
+        _ => valid::unwalked(random),
+    };
+    versioned(random, draft).bytes()
 }
 
 fn harmed(random: &mut Generator, phrase: &Phrase) -> Vec<u8> {

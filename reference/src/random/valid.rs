@@ -1,6 +1,6 @@
 //! Drafts of phrases that the reader takes, of many shapes.
 
-use super::Generator;
+use super::{Generator, Versioned};
 use crate::check::HOST_WORDS;
 use crate::draft::{Draft, DraftBell, DraftNote};
 use crate::range::Range;
@@ -139,10 +139,11 @@ const SHAPES: [Shape; 9] = [
 ];
 
 /// A valid file: loose, with dues drawn somewhere, or with dues tuned to the walk.
-pub fn valid(random: &mut Generator) -> Vec<u8> {
+pub(super) fn valid(random: &mut Generator, versioned: Versioned) -> Vec<u8> {
     let shape = random.pick(&SHAPES);
     let draft = draft(random, &shape);
-    with_some_dues(random, draft).bytes()
+    let draft = with_some_dues(random, draft);
+    versioned(random, draft).bytes()
 }
 
 /// A valid file of any shape, but with all or most strokes certainly called at 0. Candidates before which one of these

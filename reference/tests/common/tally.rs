@@ -2,7 +2,7 @@
 
 #[derive(Default)]
 pub struct Tally {
-    pub counts: [u64; 19],
+    pub counts: [u64; 20],
 }
 
 impl Tally {

@@ -10,6 +10,7 @@ use Rattle.format.specs.Phrase.{Phrase}
 use Rattle.format.specs.Outcome.{Outcome}
 use Rattle.format.specs.Reading.{reading}
 use Rattle.format.specs.examples.Files.{fileP}
+use Rattle.format.specs.examples.Shifts.{fileS}
 use Rattle.checking.specs.Checking.{verdict, usedWords, perJob, checkedOf, answerFor, Values, valuesOf, boundsOf}
 use Rattle.checking.specs.declared.Answer.{Answer}
 use Rattle.checking.specs.declared.Answer.the-variants.{Accepted, Refused, Late}
@@ -17,7 +18,7 @@ use Rattle.checking.specs.declared.Checked.{Checked}
 
 -- ---- files
 
--- a version that is not 1, and a file that ends early
+-- a version that there is none of, and a file that ends early
 abbrev pub versionNine : List ℕ
 versionNine = 0x09 ∷ []
 
@@ -41,6 +42,10 @@ calledLater = set fileP 27 0x01
 -- P's bells and no stroke
 abbrev pub noStroke : List ℕ
 noStroke = take 22 (set (set fileP 4 0x11) 21 0x00)
+
+-- shifted by 14: keys 60 and 46, as written, strike bell 1 (74) and bell 0 (60); and stroke 0 is due at 9
+abbrev pub exchanged : List ℕ
+exchanged = set (set (set (set fileS 6 0x0E) 24 0x3C) 36 0x09) 38 0x2E
 
 -- ---- what is due for a file and a table
 
@@ -84,6 +89,9 @@ uses =
     -- P on two cores: W = 2 + 4 + 4 = 10; 59 = 2 * 20 + 19
     ∷ lent onTwo 59 40
     ∷ lent onTwo 60 60
+    -- S, which is P with a shift, as P
+    ∷ lent fileS 31 16
+    ∷ lent fileS 32 32
     -- no stroke: W = 4
     ∷ lent noStroke 7 0
     ∷ lent noStroke 9 8
@@ -110,6 +118,14 @@ verdicts =
     ∷ lent onTwo 40 (accepted (range 2 7 ∷ range 4 4 ∷ []) 4)
     -- stroke 0 called from 1 on. Level 0: twc 0, so job 1 starts, and ends 4..4: {1} [4,4]. Level 1: twc 5; job 0 ends 6..7.
     ∷ lent calledLater 32 (accepted (range 6 7 ∷ range 4 4 ∷ []) 3)
+    -- S strikes the bells that P strikes
+    ∷ lent fileS 31 (refused 13 1)
+    ∷ lent fileS 32 (accepted (range 2 7 ∷ range 4 6 ∷ []) 4)
+    -- a shift out of range
+    ∷ lent (set fileS 6 0x19) 32 (refused 19 6)
+    -- exchanged: job 0 holds for 4 with rank 2, job 1 for 2 with rank 1. Level 0: twc 0; job 1 is called at 0 and goes before, ends 2..2: {1} [2,2]. Level 1:
+    -- twc 5; job 0 ends 6..9.
+    ∷ lent exchanged 32 (accepted (range 6 9 ∷ range 2 2 ∷ []) 3)
     ∷ lent noStroke 8 (accepted [] 1)
     ∷ []
 

@@ -40,9 +40,9 @@ bell n t ca cb p = record { written = n; transposition = t; leastExecution = ca;
 abbrev pub note : ℕ → ℕ → ℕ → ℕ → List ℕ → Note
 note key ra rb d listed = record { key = key; earliestRelease = ra; latestRelease = rb; deadline = d; listed = listed }
 
--- on one core
+-- of version 1, on one core
 abbrev pub phrase : List Bell → List Note → Phrase
-phrase bells notes = record { version = 1; cores = 1; bells = bells; notes = notes }
+phrase bells notes = record { version = 1; cores = 1; shift = 0; bells = bells; notes = notes }
 
 abbrev pub bell0 : Bell
 bell0 = bell 60 0 2 2 1
@@ -112,8 +112,8 @@ abbrev ends : List Case
 ends =
     -- the empty file has no version to be wrong
     row [] (refused 2 0)
-    -- there is no version 2, whatever follows
-    ∷ row (set fileP 0 0x02) (refused 1 0)
+    -- there is no version 3, whatever follows
+    ∷ row (set fileP 0 0x03) (refused 1 0)
     -- a count that is right in its last byte only
     ∷ row (set fileP 1 0x01) (refused 2 0)
     ∷ row (set fileP 3 0x01) (refused 2 0)
@@ -139,7 +139,7 @@ abbrev bells : List Case
 bells =
     -- nine cores, and eight; 97 bells
     row (set fileP 5 0x09) (refused 4 5)
-    ∷ row (set fileP 5 0x08) (ok (record { version = 1; cores = 8; bells = bell0 ∷ bell1 ∷ []; notes = note0 ∷ note1 ∷ [] }))
+    ∷ row (set fileP 5 0x08) (ok (record { version = 1; cores = 8; shift = 0; bells = bell0 ∷ bell1 ∷ []; notes = note0 ∷ note1 ∷ [] }))
     ∷ row (set fileP 6 0x61) (refused 5 6)
     -- transpositions of -12, and of 25 and -25
     ∷ row (set (set fileP 15 0xF4) 37 0x32) (ok (phrase (bell0 ∷ bell 62 244 4 4 2 ∷ []) (note0 ∷ note 50 0 0 6 [] ∷ [])))

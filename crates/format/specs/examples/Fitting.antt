@@ -12,7 +12,7 @@ pub p-fits : Fits phraseP
 unfolding layout body All noteLength
 p-fits =
     record {
-      head = (omega arith, (omega arith, (omega arith, (omega arith, tt))));
+      head = (omega arith, (omega arith, (omega arith, (omega arith, (omega arith, tt)))));
       bells = (
         (omega arith, (omega arith, (omega arith, (omega arith, (omega arith, tt))))),
         ((omega arith, (omega arith, (omega arith, (omega arith, (omega arith, tt))))), tt),

@@ -42,7 +42,7 @@ table =
     ∷ []
 
 -- Every row holds.
-pub examples : map (λ (c : Case). map (struck (c .phrase .bells)) (c .phrase .notes)) table ≡ map (λ (c : Case). c .expected) table
+pub examples : map (λ (c : Case). map (struck (c .phrase .shift) (c .phrase .bells)) (c .phrase .notes)) table ≡ map (λ (c : Case). c .expected) table
 unfolding findFrom
 examples = refl
 

@@ -24,10 +24,10 @@ abbrev refuses : Phrase → ℕ → ℕ → Case
 refuses x n at = record { asked = x; expected = refused n at }
 
 abbrev versioned : ℕ → Phrase
-versioned v = record { version = v; cores = 1; bells = bell0 ∷ bell1 ∷ []; notes = note0 ∷ note1 ∷ [] }
+versioned v = record { version = v; cores = 1; shift = 0; bells = bell0 ∷ bell1 ∷ []; notes = note0 ∷ note1 ∷ [] }
 
 abbrev cored : ℕ → Phrase
-cored m = record { version = 1; cores = m; bells = bell0 ∷ bell1 ∷ []; notes = note0 ∷ note1 ∷ [] }
+cored m = record { version = 1; cores = m; shift = 0; bells = bell0 ∷ bell1 ∷ []; notes = note0 ∷ note1 ∷ [] }
 
 -- so many bells, a semitone apart, from a key on
 abbrev scale : ℕ → ℕ → List Bell
@@ -38,9 +38,9 @@ abbrev counts : List Case
 counts =
     passes phraseP
     ∷ passes phraseQ
-    -- there is one version; 257 is 1 in one byte
+    -- there are two versions; 257 is 1 in one byte
     ∷ refuses (versioned 0) 1 0
-    ∷ refuses (versioned 2) 1 0
+    ∷ refuses (versioned 3) 1 0
     ∷ refuses (versioned 257) 1 0
     -- eight cores, none and nine; 257 is 1 in one byte
     ∷ passes (cored 8)

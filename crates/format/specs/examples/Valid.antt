@@ -8,7 +8,7 @@ use native.Mathlib.Omega.{arith}
 use lib.ListN.{replicate}
 use Rattle.format.specs.Layout.{isVersion, layout}
 use Rattle.format.specs.Phrase.{Bell, sounding, Note, Phrase, findFrom}
-use Rattle.format.specs.Rules.{bellInRange, areTimes, rises}
+use Rattle.format.specs.Rules.{isShift, bellInRange, areTimes, rises}
 use Rattle.format.specs.Valid.{Each, Valid}
 use Rattle.format.specs.examples.Files.{bell, note, bell0, bell1, note0, phraseQ}
 
@@ -24,12 +24,13 @@ sounding-keys = refl
 
 -- four notes, of which 0, 2 and 3 strike bell 0
 pub q-valid : Valid phraseQ
-unfolding isVersion layout Each bellInRange findFrom areTimes rises
+unfolding isVersion layout isShift Each bellInRange findFrom areTimes rises
 q-valid =
     record {
       version = refl;
       fields = record {
         cores = omega arith;
+        shift = refl;
         bellCount = omega arith;
         bells = (record { inRange = refl; alone = refl }, (record { inRange = refl; alone = refl }, tt));
         noteCount = omega arith;
@@ -46,51 +47,51 @@ q-valid =
       };
     }
 
--- a phrase of a version, on so many cores
-abbrev phraseOn : ℕ → ℕ → List Bell → List Note → Phrase
-phraseOn v m bells notes = record { version = v; cores = m; bells = bells; notes = notes }
+-- a phrase of a version, on so many cores, with a shift
+abbrev phraseOn : ℕ → ℕ → ℕ → List Bell → List Note → Phrase
+phraseOn v m t bells notes = record { version = v; cores = m; shift = t; bells = bells; notes = notes }
 
 abbrev two : List Bell
 two = bell0 ∷ bell1 ∷ []
 
--- there is no version 2
-pub second-version : Valid (phraseOn 2 1 two []) → ⊥
+-- there is no version 3
+pub third-version : Valid (phraseOn 3 1 0 two []) → ⊥
 unfolding isVersion
-second-version v = absurd (let e : false ≡ true = v .version in let z : _≡_ {A = ℕ} 0 1 = cc in omega arith)
+third-version v = absurd (let e : false ≡ true = v .version in let z : _≡_ {A = ℕ} 0 1 = cc in omega arith)
 
 -- no core, and nine
-pub no-core : Valid (phraseOn 1 0 two []) → ⊥
+pub no-core : Valid (phraseOn 1 0 0 two []) → ⊥
 no-core v = omega (arith, v .fields .cores)
 
-pub nine-cores : Valid (phraseOn 1 9 two []) → ⊥
+pub nine-cores : Valid (phraseOn 1 9 0 two []) → ⊥
 nine-cores v = omega (arith, v .fields .cores)
 
 -- no bell, and 97
-pub no-bell : Valid (phraseOn 1 1 [] []) → ⊥
+pub no-bell : Valid (phraseOn 1 1 0 [] []) → ⊥
 no-bell v = omega (arith, v .fields .bellCount)
 
-pub many-bells : Valid (phraseOn 1 1 (replicate 97 bell0) []) → ⊥
+pub many-bells : Valid (phraseOn 1 1 0 (replicate 97 bell0) []) → ⊥
 many-bells v = omega (arith, v .fields .bellCount)
 
 -- 65 notes
-pub many-notes : Valid (phraseOn 1 1 two (replicate 65 note0)) → ⊥
+pub many-notes : Valid (phraseOn 1 1 0 two (replicate 65 note0)) → ⊥
 unfolding layout
 many-notes v = omega (arith, v .fields .noteCount)
 
 -- two bells that sound for one key
-pub one-key : Valid (phraseOn 1 1 (bell 60 2 2 2 1 ∷ bell 62 0 4 4 2 ∷ []) []) → ⊥
+pub one-key : Valid (phraseOn 1 1 0 (bell 60 2 2 2 1 ∷ bell 62 0 4 4 2 ∷ []) []) → ⊥
 unfolding Each findFrom
 one-key v = absurd (let e : some 0 ≡ none = v .fields .bells .1 .0 .alone in let z : _≡_ {A = ℕ} 0 1 = cc in omega arith)
 
 -- a note that no bell sounds for, one that lists itself, and one that lists five
-pub no-sound : Valid (phraseOn 1 1 two (note 62 0 0 6 [] ∷ [])) → ⊥
+pub no-sound : Valid (phraseOn 1 1 0 two (note 62 0 0 6 [] ∷ [])) → ⊥
 unfolding Each findFrom
 no-sound v = absurd (let e : false ≡ true = v .fields .notes .0 .sounds in let z : _≡_ {A = ℕ} 0 1 = cc in omega arith)
 
-pub lists-itself : Valid (phraseOn 1 1 two (note 60 0 5 7 (0 ∷ []) ∷ [])) → ⊥
+pub lists-itself : Valid (phraseOn 1 1 0 two (note 60 0 5 7 (0 ∷ []) ∷ [])) → ⊥
 unfolding Each rises
 lists-itself v = absurd (let e : false ≡ true = v .fields .notes .0 .rising in let z : _≡_ {A = ℕ} 0 1 = cc in omega arith)
 
-pub lists-five : Valid (phraseOn 1 1 two (note 60 0 5 7 (0 ∷ 1 ∷ 2 ∷ 3 ∷ 4 ∷ []) ∷ [])) → ⊥
+pub lists-five : Valid (phraseOn 1 1 0 two (note 60 0 5 7 (0 ∷ 1 ∷ 2 ∷ 3 ∷ 4 ∷ []) ∷ [])) → ⊥
 unfolding Each
 lists-five v = omega (arith, v .fields .notes .0 .few)

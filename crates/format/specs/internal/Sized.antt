@@ -4,6 +4,7 @@ use Rattle.format.specs.Layout.{Layout}
 
 -- What every row of the versions keeps to, and all that the proofs know of a layout.
 pub record Sized (l : Layout) : Type 0 where
+  pub shift : l .shiftBytes ≤ 1
   pub count : (1 ≤ l .countBytes) × (l .countBytes ≤ 2) × (l .mostNotes < 256 ^ l .countBytes)
   pub listed : (1 ≤ l .listedBytes) × (l .listedBytes ≤ 2) × (l .mostNotes ≤ 256 ^ l .listedBytes)
   pub notes : l .mostNotes ≤ 256

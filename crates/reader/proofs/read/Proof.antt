@@ -1,18 +1,24 @@
 -- `read` meets its contract: the rows are read into their places, and the table is completed, or cleared on a refusal. Assumes nothing.
-use mathlib.Core.Path.{_≡_, sym, ap, subst, _∙_}
-use Prim.Native.Nat.{ℕ, _≤_}
+use mathlib.Core.Path.{_≡_, refl, sym, ap, subst, _∙_}
+use Prim.Native.Nat.{ℕ, _≤_, _<_}
+use native.Mathlib.Omega.{arith}
+use mathlib.Core.Bool.{true}
 use mathlib.Core.List.{List}
 use denote.Ref.{now}
 use lib.ListN.{length, replicate}
 use Rattle.model.specs.Limits.{mostJobs}
-use Rattle.format.specs.Layout.{mostBells}
+use Rattle.format.specs.Bytes.{number}
+use Rattle.format.specs.Layout.{isVersion, layout, coresAt, mostBells}
 use Rattle.format.specs.Outcome.{ok}
 use Rattle.format.specs.Phrase.{Phrase}
 use Rattle.format.specs.Reading.{reading}
+use Rattle.format.specs.internal.Sized.{Sized}
+use Rattle.format.proofs.Layouts.{sized}
+use Rattle.fields.specs.internal.Layouts.{layoutOf}
 use Rattle.rows.specs.PhraseTable.{phraseWords, phraseTable}
 use Rattle.reader.specs.internal.Filling.{Filled, completed}
 use Rattle.records.proofs.Outcomes.{was-ok, was-refused}
-use Rattle.reader.proofs.FileReading.{body-of-read, CountsRead, counts-read}
+use Rattle.reader.proofs.FileReading.{header-says, parts-of-read, CountsRead, counts-read}
 use Rattle.reader.proofs.Completing.{completed-table}
 use borrow.Author.Needs.{needs}
 use Rattle.reader.proofs.read.Statement.{statement}
@@ -30,9 +36,24 @@ room c = c .read-rows .kept .1 .0 ∙ c .before .read-rows-arg .given .0 .1
 was-read : (c : tie.After-enum-told) → (x : Phrase) × (reading (file c) ≡ ok x)
 was-read c = was-ok (reading (file c)) (sym (c .before .before .read-rows .ensures .0) ∙ c .enum-told .given .1)
 
+-- the file has a version, and reaches past its cores
+begins : (c : tie.After-enum-told) → (isVersion (number 1 0 (file c)) ≡ true) × (coresAt < length (file c))
+begins c =
+    let x = was-read c in
+    let (u, head, body) = parts-of-read (file c) (layout (number 1 0 (file c))) refl (x .0) (x .1) in
+    header-says (file c) u head
+
+-- the layout is that of the version
+laid : (c : tie.After-layout-of) → layoutOf (c .layout-of .result) ≡ layout (number 1 0 (file (c .before .before)))
+laid c = c .layout-of .ensures ∙ ap layout (c .before .byte .ensures .0)
+
 -- what the file says of its counts
-numbers : (c : tie.After-enum-told) → CountsRead (file c) (was-read c .0)
-numbers c = let e = was-read c in counts-read (file c) (e .0) (body-of-read (file c) (e .0) (e .1))
+numbers : (c : tie.After-layout-of) → let d = c .before .before in CountsRead (c .layout-of .result) (file d) (was-read d .0)
+numbers c =
+    let d = c .before .before in
+    let x = was-read d in
+    let (u, head, body) = parts-of-read (file d) (layoutOf (c .layout-of .result)) (laid c) (x .0) (x .1) in
+    counts-read (c .layout-of .result) (file d) (x .0) body
 
 read-rows-requires : tie.Need-read-rows-requires
 read-rows-requires c κs = search needs
@@ -53,25 +74,35 @@ returns c =
     let e = was-refused (reading s) _ _ (sym (rows .ensures .0) ∙ c .before .before .enum-told2 .given .1) in
     (rows .ensures .0, c .clear .ensures ∙ ap (λ n. replicate n 0) (room (c .before .before .before .before)) ∙ sym (ap phraseTable e))
 
+byte-requires : tie.Need-byte-requires
+byte-requires c κs = omega (arith, begins c .1)
+
+layout-of-requires : tie.Need-layout-of-requires
+layout-of-requires c κs = ap isVersion (c .byte .ensures .0) ∙ begins (c .before) .0
+
 counts-in-requires : tie.Need-counts-in-requires
 counts-in-requires c κs =
-    let n = numbers (c .before) in
-    (n .bells .0, n .bells .1, n .notes .0)
+    let d = c .before in
+    let n = numbers d in
+    (subst Sized (sym (laid d)) (sized (number 1 0 (file (d .before .before)))), n .bells .0, n .bells .1, n .notes .0)
 
 complete-requires : tie.Need-complete-requires
 complete-requires c κs =
-    let n = numbers (c .before .before) in
+    let d = c .before .before in
+    let n = numbers d in
     let e = sym (c .counts-in .ensures) in
-    (room (c .before .before .before .before), subst (λ k. k .bells ≤ mostBells) e (n .bells .1), subst (λ k. k .notes ≤ mostJobs) e (n .notes .1))
+    (room (d .before .before .before .before), subst (λ k. k .bells ≤ mostBells) e (n .bells .1), subst (λ k. k .notes ≤ mostJobs) e (n .notes .1))
 
 returns-2 : tie.Need-returns-2
 returns-2 c =
-    let rows = c .before .before .before .before .before .read-rows in
+    let d = c .before .before .before in
+    let told = d .before .before in
+    let rows = told .before .before .read-rows in
     let t = rows .last .1 .0 in
-    let x = was-read (c .before .before .before) in
+    let x = was-read told in
     let filled = subst (λ o. Filled o t) (x .1) (rows .ensures .1) in
-    let table = completed-table (x .0) t (room (c .before .before .before .before .before)) filled in
-    let counts = c .before .counts-in .ensures ∙ numbers (c .before .before .before) .counts in
+    let table = completed-table (x .0) t (room (told .before .before)) filled in
+    let counts = c .before .counts-in .ensures ∙ numbers d .counts in
     (rows .ensures .0, c .complete .ensures ∙ ap (λ k. completed k t) counts ∙ table ∙ sym (ap phraseTable (x .1)))
 
 pub read-spec : {M : Type 1} → statement M
@@ -83,6 +114,8 @@ read-spec =
     enum-told-2
     clear-requires
     returns
+    byte-requires
+    layout-of-requires
     counts-in-requires
     complete-requires
     returns-2)

@@ -2,12 +2,19 @@
 use mathlib.Core.Path.{_≡_, refl}
 use mathlib.Core.List.{[], _∷_, map}
 use Rattle.format.specs.Bytes.{number}
+use Rattle.format.specs.Layout.{first, second}
 use Rattle.format.specs.examples.Files.{fileP, fileQ}
+use Rattle.format.specs.examples.Shifts.{fileS}
 use Rattle.reader.specs.internal.Filling.{countsIn}
 
 -- two bells and two notes, and two bells and four notes; the number of notes stands after the bells, at 21
 pub counts :
-    map countsIn (fileP ∷ fileQ ∷ [])
-    ≡ record { version = 1; cores = 1; bells = 2; notes = 2 } ∷ record { version = 1; cores = 1; bells = 2; notes = 4 } ∷ []
+    map (countsIn first) (fileP ∷ fileQ ∷ [])
+    ≡ record { version = 1; cores = 1; shift = 0; bells = 2; notes = 2 } ∷ record { version = 1; cores = 1; shift = 0; bells = 2; notes = 4 } ∷ []
 unfolding number
 counts = refl
+
+-- with a shift of -4 after the cores, each a byte further on
+pub shifted : countsIn second fileS ≡ record { version = 2; cores = 1; shift = 252; bells = 2; notes = 2 }
+unfolding number
+shifted = refl

@@ -37,10 +37,10 @@ HoldsBells bells t = BeginsWith bellRow bellWords bells (drop bellRowsAt t)
 -- ---- notes
 
 -- the table once the record of note `own` has been read
-abbrev pub notePut : List Bell → Outcome Note → List ℕ → ℕ → List ℕ
-notePut bells (ok n) t own = placed t (noteRowsAt + own * noteWords) (noteRow bells n)
-notePut bells (refused r at) t own = t
+abbrev pub notePut : ℕ → List Bell → Outcome Note → List ℕ → ℕ → List ℕ
+notePut shift bells (ok n) t own = placed t (noteRowsAt + own * noteWords) (noteRow shift bells n)
+notePut shift bells (refused r at) t own = t
 
 -- the rows of notes begin with those of these
-abbrev pub HoldsNotes : List Bell → List Note → List ℕ → Type 0
-HoldsNotes bells notes t = BeginsWith (noteRow bells) noteWords notes (drop noteRowsAt t)
+abbrev pub HoldsNotes : ℕ → List Bell → List Note → List ℕ → Type 0
+HoldsNotes shift bells notes t = BeginsWith (noteRow shift bells) noteWords notes (drop noteRowsAt t)

@@ -8,10 +8,11 @@ use Rattle.model.specs.Folds.{sum}
 use Rattle.model.specs.Exploration.{analysis}
 use Rattle.format.specs.Reading.{reading}
 use Rattle.format.specs.examples.Files.{fileP}
+use Rattle.format.specs.examples.Shifts.{fileS}
 use Rattle.text.specs.Bytes.{bytes}
 use Rattle.text.specs.Decimal.{decimalWithin}
 use Rattle.checking.specs.Checking.{perJob, Values, valuesOf}
-use Rattle.checking.specs.examples.Checks.{versionNine, latePhrase, calledLater, noStroke, Case, lent, dues, given, alone, both, values}
+use Rattle.checking.specs.examples.Checks.{versionNine, latePhrase, calledLater, exchanged, noStroke, Case, lent, dues, given, alone, both, values}
 use Rattle.checking.specs.declared.Answer.the-variants.{Accepted, Refused, Late}
 use Rattle.checking.specs.declared.Checked.{Checked}
 use Rattle.lines.specs.Lines.{strokeLine, lines, acceptedLine, refusedLine, lateLine}
@@ -42,6 +43,12 @@ texts =
     -- the last line adds up the longest holds
     ∷ lent longerHold 32
     (bytes "stroke 0 key C4 bell 0 ends 2..8 response 2..8 due 8\nstroke 1 key D5 bell 1 ends 4..7 response 4..7 due 9\naccepted strokes 2 states 4 hold 7\n")
+    -- S: keys 64 and 78 as written (E4 and F#5), with a shift of -4: heard as those of P
+    ∷ lent fileS 32 textP
+    -- keys 60 and 46 (C4 and A#2), with a shift of 14
+    ∷ lent exchanged 32
+    (bytes "stroke 0 key D5 bell 1 ends 6..9 response 6..9 due 9\nstroke 1 key C4 bell 0 ends 2..2 response 2..2 due 6\naccepted strokes 2 states 3 hold 6\n")
+    ∷ lent (set fileS 6 0x19) 32 (bytes "refused 19 at 6\n")
     ∷ lent noStroke 8 (bytes "accepted strokes 0 states 1 hold 0\n")
     ∷ []
 

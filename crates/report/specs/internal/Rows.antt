@@ -4,8 +4,10 @@ use mathlib.Core.List.{List, _++_}
 use lib.ListN.{getD}
 use Rattle.format.specs.Rules.{lowestKey}
 use Rattle.format.specs.Layout.{mostBells}
+use Rattle.format.specs.Phrase.{transposed}
 use Rattle.rows.specs.BellRow.{mostExecutionWord}
 use Rattle.rows.specs.NoteRow.{keyWord, deadlineWord, struckWord}
+use Rattle.rows.specs.PhraseTable.{shiftWord}
 use Rattle.rows.specs.internal.Handed.{bellWord, noteWord}
 use Rattle.checking.specs.declared.Answer.{Answer}
 use Rattle.checking.specs.declared.Answer.the-variants.{Accepted, Refused, Late}
@@ -14,12 +16,16 @@ use Rattle.lines.specs.Lines.{strokeLine, lines, acceptedLine, refusedLine, lat
 use Rattle.model.specs.Folds.{sum}
 use Rattle.lines.specs.declared.lines.Stroke.{Stroke}
 
+-- the key of note i, moved by the shift
+abbrev pub keyIn : List ℕ → ℕ → ℕ
+keyIn t i = transposed (noteWord t i keyWord) (getD t shiftWord 0)
+
 -- the stroke of note i, with the bounds that these arrays hold
 abbrev pub strokeIn : List ℕ → List ℕ → List ℕ → List ℕ → List ℕ → ℕ → Stroke
 strokeIn t earliest latest best worst i =
     record {
       number = i;
-      key = noteWord t i keyWord;
+      key = keyIn t i;
       bell = noteWord t i struckWord;
       earliest = getD earliest i 0;
       latest = getD latest i 0;
@@ -35,9 +41,13 @@ strokesText t earliest latest best worst = lines (λ i. strokeLine (strokeIn t e
 abbrev pub holdIn : List ℕ → ℕ → ℕ
 holdIn t = sum (λ i. bellWord t (noteWord t i struckWord) mostExecutionWord)
 
--- no key is below the lowest that a bell sounds for, and every bell that is struck has a row
+-- the key of note i and the shift are bytes
+abbrev pub SmallKey : List ℕ → ℕ → Type 0
+SmallKey t i = (noteWord t i keyWord < 256) × (getD t shiftWord 0 < 256)
+
+-- no key is below the lowest that a bell sounds for, every bell that is struck has a row, and keys and shift are bytes
 abbrev pub Keyed : List ℕ → ℕ → Type 0
-Keyed t k = (i : ℕ) → i < k → (lowestKey ≤ noteWord t i keyWord) × (noteWord t i struckWord < mostBells)
+Keyed t k = (i : ℕ) → i < k → (lowestKey ≤ keyIn t i) × (noteWord t i struckWord < mostBells) × SmallKey t i
 
 abbrev pub acceptedText : Checked → List ℕ → List ℕ
 acceptedText r t =

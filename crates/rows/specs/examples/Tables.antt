@@ -8,6 +8,7 @@ use Rattle.format.specs.Outcome.{ok, refused}
 use Rattle.format.specs.Phrase.{Phrase, sounding, findFrom}
 use Rattle.format.specs.Jobs.{noNote}
 use Rattle.format.specs.examples.Files.{bell, note, phraseP}
+use Rattle.format.specs.examples.Shifts.{phraseS}
 use Rattle.rows.specs.Rows.{rowsIn}
 use Rattle.rows.specs.BellRow.{bellRow}
 use Rattle.rows.specs.NoteRow.{noteRowOn}
@@ -15,7 +16,7 @@ use Rattle.rows.specs.PhraseTable.{phraseTable, phraseOf}
 
 -- ---- document 01's phrase P
 
--- the header: version, cores, bells, notes, a spare word; 96 rows of 7 words for the bells; 64 rows of 10 words for the notes
+-- the header: version, cores, bells, notes, shift; 96 rows of 7 words for the bells; 64 rows of 10 words for the notes
 abbrev tableP : List ℕ
 tableP =
     (1 ∷ 1 ∷ 2 ∷ 2 ∷ 0 ∷ [])
@@ -43,6 +44,7 @@ phraseR =
     record {
       version = 1;
       cores = 2;
+      shift = 0;
       bells = bell 60 0 2 2 1 ∷ bell 62 244 3 9 0 ∷ bell 62 12 4 5 2 ∷ [];
       notes = note 74 1 2 9 [] ∷ note 50 0 5 7 (0 ∷ []) ∷ note 60 0 0 6 [] ∷ note 74 66051 263430 460809 (1 ∷ 2 ∷ []) ∷ [];
     }
@@ -70,12 +72,12 @@ r-held = refl
 
 -- the header says how many rows are read: with one bell and two notes counted, these are the first
 pub fewer-held : phraseOf (set (set tableR 2 1) 3 2)
-    ≡ record { version = 1; cores = 2; bells = take 1 (phraseR .bells); notes = take 2 (phraseR .notes) }
+    ≡ record { version = 1; cores = 2; shift = 0; bells = take 1 (phraseR .bells); notes = take 2 (phraseR .notes) }
 unfolding rowsIn
 fewer-held = refl
 
--- spare words (of the header and of bell 0) and derived ones (the key of bell 0, the bell of note 0) say nothing of the phrase
-pub others-ignored : phraseOf (set (set (set (set tableP 4 9) 10 9) 11 99) 686 9) ≡ phraseP
+-- a spare word (of bell 0) and derived ones (the key of bell 0, the bell of note 0) say nothing of the phrase
+pub others-ignored : phraseOf (set (set (set tableP 10 9) 11 99) 686 9) ≡ phraseP
 unfolding rowsIn
 others-ignored = refl
 
@@ -90,6 +92,26 @@ pub counted :
     ≡ 97 ∷ 65 ∷ []
 unfolding rowsIn
 counted = refl
+
+-- ---- a shift: keys as they are written, on the bells that they strike once they are moved
+
+abbrev tableS : List ℕ
+tableS =
+    (2 ∷ 1 ∷ 2 ∷ 2 ∷ 252 ∷ [])
+    ++ (60 ∷ 0 ∷ 2 ∷ 2 ∷ 1 ∷ 0 ∷ 60 ∷ [])
+    ++ (62 ∷ 12 ∷ 4 ∷ 4 ∷ 2 ∷ 0 ∷ 74 ∷ [])
+    ++ replicate 658 0
+    ++ (64 ∷ 0 ∷ 5 ∷ 7 ∷ 0 ∷ 0 ∷ 0 ∷ 0 ∷ 0 ∷ 0 ∷ [])
+    ++ (78 ∷ 0 ∷ 0 ∷ 6 ∷ 0 ∷ 0 ∷ 0 ∷ 0 ∷ 0 ∷ 1 ∷ [])
+    ++ replicate 620 0
+
+pub s-table : phraseTable (ok phraseS) ≡ tableS
+unfolding records bellRow noteRowOn sounding findFrom
+s-table = refl
+
+pub s-held : phraseOf tableS ≡ phraseS
+unfolding rowsIn
+s-held = refl
 
 -- ---- a refusal: zeros only, and as many
 

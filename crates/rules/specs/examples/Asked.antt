@@ -2,6 +2,7 @@
 use mathlib.Core.Path.{_≡_, refl}
 use mathlib.Core.List.{[], _∷_, map}
 use Rattle.format.specs.Bytes.{records}
+use Rattle.format.specs.Layout.{first, second}
 use Rattle.format.specs.Outcome.{ok, refused}
 use Rattle.format.specs.Phrase.{Phrase}
 use Rattle.format.specs.Rules.{noteRules}
@@ -16,11 +17,22 @@ pub answers : map (λ o. endOf {A = Phrase} o 50) (ok phraseP ∷ refused 12 36 
 answers = refl
 
 -- P ends at 50; a bell without notes at 15; with a note that lists two jobs at 31
-pub ends : map bodyEnd (phraseP ∷ phrase (bell0 ∷ []) [] ∷ phrase (bell0 ∷ []) (note 60 0 5 7 (0 ∷ 1 ∷ []) ∷ []) ∷ []) ≡ 50 ∷ 15 ∷ 31 ∷ []
+pub ends : map (bodyEnd first) (phraseP ∷ phrase (bell0 ∷ []) [] ∷ phrase (bell0 ∷ []) (note 60 0 5 7 (0 ∷ 1 ∷ []) ∷ []) ∷ []) ≡ 50 ∷ 15 ∷ 31 ∷ []
 unfolding records noteFile
 ends = refl
 
+-- with a shift before the number of bells, each a byte further on
+pub shifted-ends : map (bodyEnd second) (phraseP ∷ phrase (bell0 ∷ []) [] ∷ []) ≡ 51 ∷ 16 ∷ []
+unfolding records noteFile
+shifted-ends = refl
+
 -- a note that lists five jobs, and has no bell, is told for the five
-pub asked : noteAsked (bell0 ∷ bell1 ∷ []) 5 92 (note 61 0 5 7 (0 ∷ 1 ∷ 2 ∷ 3 ∷ 4 ∷ [])) ∷ noteAsked (bell0 ∷ bell1 ∷ []) 0 22 note0 ∷ [] ≡ refused 9 92 ∷ ok note0 ∷ []
+pub asked : noteAsked 0 (bell0 ∷ bell1 ∷ []) 5 92 (note 61 0 5 7 (0 ∷ 1 ∷ 2 ∷ 3 ∷ 4 ∷ [])) ∷ noteAsked 0 (bell0 ∷ bell1 ∷ []) 0 22 note0 ∷ [] ≡ refused 9 92 ∷ ok note0 ∷ []
 unfolding noteRules
 asked = refl
+
+-- down four semitones key 64 has the bell of key 60, which has none itself
+pub shifted-asked : noteAsked 252 (bell0 ∷ bell1 ∷ []) 0 23 (note 64 0 5 7 []) ∷ noteAsked 252 (bell0 ∷ bell1 ∷ []) 0 23 note0 ∷ []
+    ≡ ok (note 64 0 5 7 []) ∷ refused 10 23 ∷ []
+unfolding noteRules
+shifted-asked = refl

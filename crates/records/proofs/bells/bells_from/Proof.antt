@@ -6,7 +6,7 @@ use mathlib.Core.List.{[]}
 use denote.Ref.{now}
 use borrow.Author.Needs.{needs}
 use lib.ListN.{length, drop, length-drop}
-use Rattle.format.specs.Layout.{first, bellsAt, bellBytes}
+use Rattle.format.specs.Layout.{first, bellBytes}
 use Rattle.format.specs.Outcome.{Outcome, ok}
 use Rattle.format.specs.Phrase.{Bell}
 use Rattle.format.specs.Reading.{bellRecord, bellsFrom}
@@ -24,15 +24,15 @@ use Rattle.records.proofs.bells.bells_from.Statement.{statement}
 use Rattle.records.proofs.bells.bells_from.Tie as tie
 
 abbrev Inv-loop : tie.InvT-loop
-Inv-loop file n phrase₀ at₀ i₀ phrase at i =
+Inv-loop file start n phrase₀ at₀ i₀ phrase at i =
     (i ≤ n)
     × (at ≤ length file)
     × (length phrase ≡ length phrase₀)
     × BellTable phrase i
-    × (bellsFrom first file (n - i) at (bellsHeld phrase i) ≡ bellsFrom first file n (bellsAt first) [])
+    × (bellsFrom first file (n - i) at (bellsHeld phrase i) ≡ bellsFrom first file n start [])
 
 abbrev μ-loop : tie.MeasureT-loop
-μ-loop file n phrase₀ at₀ i₀ phrase at i = n - i
+μ-loop file start n phrase₀ at₀ i₀ phrase at i = n - i
 
 abbrev loop : tie.After-read-bell Inv-loop μ-loop → tie.At-loop Inv-loop μ-loop
 loop c = c .before .before .before .before
@@ -65,7 +65,7 @@ fits c = omega (arith, is-long _ _ _ _ (taken c .1), length-drop (loop (called c
 loop-holds : tie.Need-loop-holds Inv-loop μ-loop
 loop-holds c =
     let a = c .before .before .args in
-    (omega arith, omega arith, refl, table-none (now (a .phrase)), none-read (now (a .file)) (a .n) (bellsAt first) (now (a .phrase)))
+    (omega arith, omega arith, refl, table-none (now (a .phrase)), none-read (now (a .file)) (a .n) (a .start) (now (a .phrase)))
 
 sub-read-bell : tie.Need-sub-read-bell Inv-loop μ-loop
 sub-read-bell c = omega arith

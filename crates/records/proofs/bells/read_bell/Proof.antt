@@ -5,7 +5,7 @@ use denote.Ref.{now}
 use mathlib.Core.Bool.{true, false}
 use borrow.Author.Tests.{not-true, not-false}
 use Rattle.format.specs.Layout.{first}
-use Rattle.format.specs.Phrase.{Bell, sounding, find}
+use Rattle.format.specs.Phrase.{Bell, sounding, findSounding}
 use Rattle.format.specs.Rules.{bellInRange}
 use Rattle.format.specs.Reading.{bellIn}
 use Rattle.records.specs.internal.Answers.{foundOf}
@@ -29,16 +29,16 @@ abbrev earlier : tie.After-is-in-range → List Bell
 earlier c = bellsHeld (now (start c .args .phrase)) (start c .args .i)
 
 -- the test of its ranges, before the look-up
-abbrev range : tie.After-find-bell → tie.Else2
+abbrev range : tie.After-find-sounding → tie.Else2
 range c = c .before .before
 
 ranged : (c : tie.Else2) → bellInRange (bell (c .before)) ≡ true
 ranged c = sym (c .before .is-in-range .ensures) ∙ not-false (c .before .is-in-range .result) (c .if2 .left)
 
-looked : (c : tie.After-find-bell) → let d = range c .before in c .find-bell .result ≡ foundOf (find (sounding (bell d)) (earlier d))
+looked : (c : tie.After-find-sounding) → let d = range c .before in c .find-sounding .result ≡ foundOf (findSounding (sounding (bell d)) (earlier d))
 looked c =
     let d = range c .before in
-    c .find-bell .ensures ∙ ap (λ k. foundOf (find k (earlier d))) (d .before .sounding-key .ensures)
+    c .find-sounding .ensures ∙ ap (λ k. foundOf (findSounding k (earlier d))) (d .before .sounding-key .ensures)
 
 returns : tie.Need-returns
 returns c =
@@ -60,8 +60,8 @@ returns-2 c =
     let r : bellInRange (bell d) ≡ false = sym (d .is-in-range .ensures) ∙ not-true (d .is-in-range .result) (c .if2 .taken) in
     carried (λ o. t ≡ bellPut o t (a .i)) (outside (earlier d) (a .at) (now (a .part)) (d .before .before .if1 .left) r) refl
 
-find-bell-requires : tie.Need-find-bell-requires
-find-bell-requires c κs = search needs
+find-sounding-requires : tie.Need-find-sounding-requires
+find-sounding-requires c κs = search needs
 
 enum-told : tie.Need-enum-told
 enum-told c = search needs
@@ -75,7 +75,7 @@ returns-3 c =
     let d = range found .before in
     let a = start d .args in
     let t = now (a .phrase) in
-    let f = was-some (find (sounding (bell d)) (earlier d)) _ (sym (looked found) ∙ c .enum-told .given .1) in
+    let f = was-some (findSounding (sounding (bell d)) (earlier d)) _ (sym (looked found) ∙ c .enum-told .given .1) in
     carried (λ o. t ≡ bellPut o t (a .i)) (doubled (earlier d) (a .at) (now (a .part)) (d .before .before .if1 .left) (ranged (range found)) _ f) refl
 
 enum-told-2 : tie.Need-enum-told-2
@@ -94,7 +94,7 @@ returns-4 c =
     let found = told .before .before in
     let d = range found .before in
     let a = start d .args in
-    let f = was-none (find (sounding (bell d)) (earlier d)) (sym (looked found) ∙ told .enum-told2 .given .1) in
+    let f = was-none (findSounding (sounding (bell d)) (earlier d)) (sym (looked found) ∙ told .enum-told2 .given .1) in
     let read = whole (earlier d) (a .at) (now (a .part)) (d .before .before .if1 .left) (ranged (range found)) f in
     carried (λ o. put .put-bell .last .1 .1 .0 ≡ bellPut o (now (a .phrase)) (a .i)) read (put .put-bell .ensures)
 
@@ -106,7 +106,7 @@ read-bell-spec =
     sounding-key-requires
     is-in-range-requires
     returns-2
-    find-bell-requires
+    find-sounding-requires
     enum-told
     same-length
     returns-3

@@ -1,4 +1,4 @@
--- `bells::read_bells` meets its contract: each way out is a case of `bellsOf`. Assumes nothing.
+-- `bells::read_bells` meets its contract: each way out is a case of `bellsIn`. Assumes nothing.
 use Prim.Native.Nat.{ℕ}
 use mathlib.Core.Path.{_≡_, sym, ap, _∙_}
 use native.Mathlib.Omega.{arith}
@@ -6,9 +6,12 @@ use denote.Ref.{now}
 use mathlib.Core.List.{[]}
 use mathlib.Core.Bool.{true, false}
 use borrow.Author.Tests.{not-true, not-false}
+use Rattle.model.specs.Refusals.{wrongEnd, wrongBellCount}
 use Rattle.format.specs.Bytes.{number, within}
-use Rattle.format.specs.Layout.{first, bellCountAt, bellsAt, mostBells}
+use Rattle.format.specs.Layout.{Layout, first, bellCountAt, bellsAt, mostBells}
+use Rattle.format.specs.Outcome.{refused}
 use Rattle.format.specs.Reading.{bellsFrom}
+use Rattle.fields.specs.internal.Layouts.{layoutOf}
 use Rattle.records.specs.internal.Filling.{listOf, HoldsBells}
 use Rattle.records.proofs.Outcomes.{carried}
 use Rattle.rows.proofs.BellRow.{begins-none}
@@ -18,24 +21,42 @@ use borrow.Author.Needs.{needs}
 use Rattle.records.proofs.bells.read_bells.Statement.{statement}
 use Rattle.records.proofs.bells.read_bells.Tie as tie
 
-abbrev start : tie.After-is-within → tie.Start
-start c = c .before .before .before .before .before
+abbrev start : tie.After-bell-count-at → tie.Start
+start c = c .before .before .before
+
+-- the layout by which the file is read
+abbrev by : tie.After-bell-count-at → Layout
+by c = layoutOf (start c .args .l)
+
+-- the place of the bell count, before the test of its range
+abbrev placed : tie.After-is-within → tie.After-bell-count-at
+placed c = c .before .before .before
 
 -- the bell count
-abbrev count : tie.After-is-within → ℕ
-count c = number 1 (bellCountAt first) (now (start c .args .file))
+abbrev count : tie.After-bell-count-at → ℕ
+count c = number 1 (bellCountAt (by c)) (now (start c .args .file))
 
-tested : (c : tie.After-is-within) → c .is-within .result ≡ within 1 mostBells (count c)
-tested c = c .is-within .ensures ∙ ap (within 1 mostBells) (c .before .byte .ensures .0)
+counted : (c : tie.After-byte) → c .byte .result ≡ count (c .before .before)
+counted c =
+    let p = c .before .before in
+    c .byte .ensures .0 ∙ ap (λ at. number 1 at (now (start p .args .file))) (p .bell-count-at .ensures)
 
-in-range : (c : tie.Else2) → within 1 mostBells (count (c .before)) ≡ true
+tested : (c : tie.After-is-within) → c .is-within .result ≡ within 1 mostBells (count (placed c))
+tested c = c .is-within .ensures ∙ ap (within 1 mostBells) (counted (c .before))
+
+in-range : (c : tie.Else2) → within 1 mostBells (count (placed (c .before))) ≡ true
 in-range c = sym (tested (c .before)) ∙ not-false (c .before .is-within .result) (c .if2 .left)
+
+bell-count-at-requires : tie.Need-bell-count-at-requires
+bell-count-at-requires c κs = search needs
 
 returns : tie.Need-returns
 returns c =
-    let a = c .before .before .before .args in
+    let p = c .before in
+    let a = start p .args in
     let t = now (a .phrase) in
-    carried (λ o. HoldsBells (listOf o) t) (no-count (now (a .file)) (c .if1 .taken)) (begins-none t)
+    let e = p .bell-count-at .ensures in
+    carried (λ o. HoldsBells (listOf o) t) (no-count (by p) (now (a .file)) (omega (arith, e)) ∙ ap (refused wrongEnd) (sym e)) (begins-none t)
 
 byte-requires : tie.Need-byte-requires
 byte-requires c κs = search needs
@@ -49,18 +70,31 @@ is-within-requires c κs = search needs
 returns-2 : tie.Need-returns-2
 returns-2 c =
     let d = c .before in
-    let a = start d .args in
+    let p = placed d in
+    let a = start p .args in
     let t = now (a .phrase) in
-    let e : within 1 mostBells (count d) ≡ false = sym (tested d) ∙ not-true (d .is-within .result) (c .if2 .taken) in
-    carried (λ o. HoldsBells (listOf o) t) (bad-count (now (a .file)) (d .before .before .if1 .left) e) (begins-none t)
+    let e = p .bell-count-at .ensures in
+    let wrong : within 1 mostBells (count p) ≡ false = sym (tested d) ∙ not-true (d .is-within .result) (c .if2 .taken) in
+    carried (λ o. HoldsBells (listOf o) t)
+    (bad-count (by p) (now (a .file)) (omega (arith, e, d .before .before .if1 .left)) wrong ∙ ap (refused wrongBellCount) (sym e)) (begins-none t)
+
+bells-at-requires : tie.Need-bells-at-requires
+bells-at-requires c κs = search needs
 
 cast-bells-from : tie.Need-cast-bells-from
 cast-bells-from c = search needs
 
 bells-from-requires : tie.Need-bells-from-requires
 bells-from-requires c κs =
-    let bounds = within-true 1 mostBells (count (c .before .before)) (in-range (c .before)) in
-    (omega arith, omega (arith, bounds .1), omega arith)
+    let b = c .before in
+    let d = b .before .before in
+    let p = placed d in
+    let bounds = within-true 1 mostBells (count p) (in-range (b .before)) in (
+      omega (arith, b .bells-at .ensures, p .bell-count-at .ensures, d .before .before .if1 .left),
+      omega (arith, b .bells-at .ensures, start p .pre .0 .shift),
+      omega (arith, bounds .1, counted (d .before)),
+      omega arith,
+    )
 
 same-length : tie.Need-same-length
 same-length c = search needs
@@ -68,22 +102,27 @@ same-length c = search needs
 returns-3 : tie.Need-returns-3
 returns-3 c =
     let f = c .before .before in
-    let d = f .before .before .before in
-    let s = now (start d .args .file) in
-    let those = right-count s (d .before .before .if1 .left) (in-range (f .before .before)) in
-    let cast = ap (λ n. bellsFrom first s n (bellsAt first) []) (sym (d .before .byte .ensures .0)) in
-    let q = carried (λ o. HoldsBells (listOf o) (f .bells-from .last .1 .1 .0)) (those ∙ cast) (f .bells-from .ensures .1) in
+    let b = f .before .before in
+    let d = b .before .before in
+    let p = placed d in
+    let s = now (start p .args .file) in
+    let those = right-count (by p) s (omega (arith, p .bell-count-at .ensures, d .before .before .if1 .left)) (in-range (b .before)) in
+    let cast : bellsFrom first s (count p) (bellsAt (by p)) [] ≡ bellsFrom first s (d .before .byte .result) (b .bells-at .result) [] =
+    λ i. bellsFrom first s (sym (counted (d .before)) i) (sym (b .bells-at .ensures) i) [] in
+    let q = carried (λ o. HoldsBells (listOf o) (f .bells-from .last .1 .1 .1 .0)) (those ∙ cast) (f .bells-from .ensures .1) in
     (f .bells-from .ensures .0 ∙ q .0, q .1)
 
 pub read-bells-spec : {M : Type 1} → statement M
 read-bells-spec =
     tie.close
     (tie.spec
+    bell-count-at-requires
     returns
     byte-requires
     cast-is-within
     is-within-requires
     returns-2
+    bells-at-requires
     cast-bells-from
     bells-from-requires
     same-length

@@ -41,13 +41,13 @@ noteOf c = noteIn first (now (start c .args .part))
 abbrev bellsOf : tie.After-find-bell → List Bell
 bellsOf c = bellsHeld (now (start c .args .phrase)) (start c .args .n)
 
-looked : (c : tie.After-find-bell) → c .find-bell .result ≡ foundOf (find (noteOf c .key) (bellsOf c))
+looked : (c : tie.After-find-bell) → c .find-bell .result ≡ foundOf (find (noteOf c .key) (start c .args .shift) (bellsOf c))
 looked c =
     let p = now (start c .args .part) in
     let key = c .before .before .byte .ensures .0 ∙ number-one 1 p ∙ sym (note-key p) in
-    c .find-bell .ensures ∙ ap (λ k. foundOf (find k (bellsOf c))) key
+    c .find-bell .ensures ∙ ap (λ k. foundOf (find k (start c .args .shift) (bellsOf c))) key
 
-strikes : (c : tie.After-known-told) → let d = c .before .before .before in find (noteOf d .key) (bellsOf d) ≡ some (c .before .bell .given .0 .0)
+strikes : (c : tie.After-known-told) → let d = c .before .before .before in find (noteOf d .key) (start d .args .shift) (bellsOf d) ≡ some (c .before .bell .given .0 .0)
 strikes c = was-some _ _ (sym (looked (c .before .before .before)) ∙ c .before .bell .given .1)
 
 -- the test of the note's times
@@ -86,8 +86,8 @@ returns c =
     let t = now (a .phrase) in
     let bs = bellsHeld t (a .n) in
     let note = noteIn first (now (a .part)) in
-    let none = was-none (find (note .key) bs) (sym (looked (c .before .before)) ∙ c .enum-told .given .1) in
-    carried (λ o. t ≡ notePut bs o t (a .own)) (no-bell bs (a .own) (a .at) note none) refl
+    let none = was-none (find (note .key) (a .shift) bs) (sym (looked (c .before .before)) ∙ c .enum-told .given .1) in
+    carried (λ o. t ≡ notePut (a .shift) bs o t (a .own)) (no-bell (a .shift) bs (a .own) (a .at) note none) refl
 
 be-32-requires : tie.Need-be-32-requires
 be-32-requires c κs = omega (arith, there (now (c .before .before .before .before .before .before .before .before .args .part)) (c .before .before .before .before .before .before .before .before .pre .0))
@@ -111,7 +111,7 @@ returns-2 c =
     let bs = bellsHeld t (a .n) in
     let note = noteIn first (now (a .part)) in
     let wrong = sym (timed (c .before)) ∙ not-true (c .before .are-times .result) (c .if1 .taken) in
-    carried (λ o. t ≡ notePut bs o t (a .own)) (bad-times bs (a .own) (a .at) note _ (strikes (c .before .before .before .before .before)) wrong) refl
+    carried (λ o. t ≡ notePut (a .shift) bs o t (a .own)) (bad-times (a .shift) bs (a .own) (a .at) note _ (strikes (c .before .before .before .before .before)) wrong) refl
 
 cast-do-rise : tie.Need-cast-do-rise
 cast-do-rise c = search needs
@@ -129,7 +129,7 @@ returns-3 c =
     let bs = bellsHeld t (a .n) in
     let note = noteIn first (now (a .part)) in
     let wrong = sym (c .before .do-rise .ensures) ∙ not-true (c .before .do-rise .result) (c .if2 .taken) in
-    carried (λ o. t ≡ notePut bs o t (a .own)) (bad-listed bs (a .own) (a .at) note _ (strikes (c .before .before .before .before .before .before .before)) (timely (c .before .before)) wrong) refl
+    carried (λ o. t ≡ notePut (a .shift) bs o t (a .own)) (bad-listed (a .shift) bs (a .own) (a .at) note _ (strikes (c .before .before .before .before .before .before .before)) (timely (c .before .before)) wrong) refl
 
 put-note-requires : tie.Need-put-note-requires
 put-note-requires c κs = search needs
@@ -146,7 +146,7 @@ returns-4 c =
     let bell = strikes (c .before .before .before .before .before .before .before .before .before .before .before) in
     let rise = sym (c .before .before .before .before .before .do-rise .ensures) ∙ not-false (c .before .before .before .before .before .do-rise .result) (c .before .before .before .before .if2 .left) in
     let put = c .before .before .put-note .ensures ∙ ap (λ o. placed t (noteRowsAt + a .own * noteWords) (noteRowOn (orFirst o) note)) (sym bell) in
-    carried (λ o. c .before .before .put-note .last .1 .1 .0 ≡ notePut bs o t (a .own)) (right bs (a .own) (a .at) note _ bell (timely (c .before .before .before .before .before .before)) rise) put
+    carried (λ o. c .before .before .put-note .last .1 .1 .0 ≡ notePut (a .shift) bs o t (a .own)) (right (a .shift) bs (a .own) (a .at) note _ bell (timely (c .before .before .before .before .before .before)) rise) put
 
 pub note-fields-spec : {M : Type 1} → statement M
 note-fields-spec =

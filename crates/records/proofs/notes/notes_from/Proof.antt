@@ -24,14 +24,14 @@ use Rattle.records.proofs.notes.notes_from.Statement.{statement}
 use Rattle.records.proofs.notes.notes_from.Tie as tie
 
 abbrev Inv-loop : tie.InvT-loop
-Inv-loop file start count phrase₀ n at₀ i₀ phrase at i =
+Inv-loop file start count shift phrase₀ n at₀ i₀ phrase at i =
     (i ≤ count)
     × (at ≤ length file)
     × (length phrase ≡ length phrase₀)
-    × Noted file (bellsHeld phrase₀ n) n count start i at phrase
+    × Noted file shift (bellsHeld phrase₀ n) n count start i at phrase
 
 abbrev μ-loop : tie.MeasureT-loop
-μ-loop file start count phrase₀ n at₀ i₀ phrase at i = count - i
+μ-loop file start count shift phrase₀ n at₀ i₀ phrase at i = count - i
 
 abbrev loop : tie.After-read-note Inv-loop μ-loop → tie.At-loop Inv-loop μ-loop
 loop c = c .before .before .before .before
@@ -47,7 +47,7 @@ bellsOf c = bellsHeld (now (start c .args .phrase)) (start c .args .n)
 abbrev outcome : tie.After-read-note Inv-loop μ-loop → Outcome Note
 outcome c =
     let v = loop c .loop in
-    noteRecord first (bellsOf c) (v .i) (v .at) (drop (v .at) (now (start c .args .file)))
+    noteRecord first (start c .args .shift) (bellsOf c) (v .i) (v .at) (drop (v .at) (now (start c .args .file)))
 
 -- the call that the answer comes from
 abbrev called : tie.After-enum-told Inv-loop μ-loop → tie.After-read-note Inv-loop μ-loop
@@ -58,15 +58,15 @@ answer : (c : tie.After-read-note Inv-loop μ-loop) → c .read-note .result ≡
 answer c =
     let s = now (start c .args .file) in
     let v = loop c .loop in
-    c .read-note .ensures .0 ∙ (λ k. readingOf (noteRecord first (v .inv .3 .same k) (v .i) (v .at) (tail-is s (v .at) k)))
+    c .read-note .ensures .0 ∙ (λ k. readingOf (noteRecord first (start c .args .shift) (v .inv .3 .same k) (v .i) (v .at) (tail-is s (v .at) k)))
 
 -- and what it leaves in the table
-left : (c : tie.After-read-note Inv-loop μ-loop) → let v = loop c .loop in c .read-note .last .1 .1 .0 ≡ notePut (bellsOf c) (outcome c) (v .phrase) (v .i)
+left : (c : tie.After-read-note Inv-loop μ-loop) → let v = loop c .loop in c .read-note .last .1 .1 .1 .0 ≡ notePut (start c .args .shift) (bellsOf c) (outcome c) (v .phrase) (v .i)
 left c =
     let s = now (start c .args .file) in
     let v = loop c .loop in
     let same = v .inv .3 .same in
-    c .read-note .ensures .1 ∙ (λ k. notePut (same k) (noteRecord first (same k) (v .i) (v .at) (tail-is s (v .at) k)) (v .phrase) (v .i))
+    c .read-note .ensures .1 ∙ (λ k. notePut (start c .args .shift) (same k) (noteRecord first (start c .args .shift) (same k) (v .i) (v .at) (tail-is s (v .at) k)) (v .phrase) (v .i))
 
 taken : (c : tie.After-enum-told Inv-loop μ-loop) → (a : Note) × (outcome (called c) ≡ ok a)
 taken c = was-ok _ (sym (answer (called c)) ∙ c .enum-told .given .1)
@@ -76,7 +76,7 @@ fits c =
     let a = start (called c) .args in
     let v = loop (called c) .loop in
     let b = taken c in
-    noted-fits (now (a .file)) (bellsOf (called c)) (a .n) (a .count) (a .start) (v .i) (v .at) (v .phrase) (v .inv .3) (c .before .before .before .before .before .before .before .loop-test .taken) (b .0) (b .1)
+    noted-fits (now (a .file)) (a .shift) (bellsOf (called c)) (a .n) (a .count) (a .start) (v .i) (v .at) (v .phrase) (v .inv .3) (c .before .before .before .before .before .before .before .loop-test .taken) (b .0) (b .1)
 
 room : (c : tie.After-read-note-arg Inv-loop μ-loop) → let v = c .before .before .loop in noteRowsAt + (v .i + 1) * noteWords ≤ length (v .phrase)
 room c = omega arith
@@ -84,7 +84,7 @@ room c = omega arith
 loop-holds : tie.Need-loop-holds Inv-loop μ-loop
 loop-holds c =
     let a = c .before .before in
-    (omega arith, a .pre .0, refl, none-noted (now (a .args .file)) (a .args .n) (a .args .count) (a .args .start) (now (a .args .phrase)) (a .pre .4))
+    (omega arith, a .pre .0, refl, none-noted (now (a .args .file)) (a .args .shift) (a .args .n) (a .args .count) (a .args .start) (now (a .args .phrase)) (a .pre .4))
 
 sub-read-note : tie.Need-sub-read-note Inv-loop μ-loop
 sub-read-note c = omega arith
@@ -96,7 +96,7 @@ part-read-note-end : tie.Need-part-read-note-end Inv-loop μ-loop
 part-read-note-end c = omega arith
 
 read-note-requires : tie.Need-read-note-requires Inv-loop μ-loop
-read-note-requires c κs = (c .before .before .before .before .before .before .pre .2, omega arith, c .before .before .before .loop .inv .3 .table, omega arith)
+read-note-requires c κs = (c .before .before .before .before .before .before .pre .2, omega arith, c .before .before .before .loop .inv .3 .table, omega arith, c .before .before .before .before .before .before .pre .5)
 
 enum-told : tie.Need-enum-told Inv-loop μ-loop
 enum-told c = search needs
@@ -105,7 +105,7 @@ enum-told-2 : tie.Need-enum-told-2 Inv-loop μ-loop
 enum-told-2 c = search needs
 
 same-length : tie.Need-same-length Inv-loop μ-loop
-same-length c = c .before .before .before .before .read-note .kept .1 .1 .0 ∙ c .before .before .before .before .before .before .before .before .loop .inv .2
+same-length c = c .before .before .before .before .read-note .kept .1 .1 .1 .0 ∙ c .before .before .before .before .before .before .before .before .loop .inv .2
 
 returns : tie.Need-returns Inv-loop μ-loop
 returns c =
@@ -114,13 +114,13 @@ returns c =
     let s = now (a .file) in
     let bs = bellsHeld (now (a .phrase)) (a .n) in
     let x = v .inv .3 in
-    let next = c .before .before .before .before .read-note .last .1 .1 .0 in
-    let q = was-refused (noteRecord first bs (v .i) (v .at) (drop (v .at) s)) _ _ (sym (answer (c .before .before .before .before)) ∙ c .enum-told2 .given .1) in
+    let next = c .before .before .before .before .read-note .last .1 .1 .1 .0 in
+    let q = was-refused (noteRecord first (a .shift) bs (v .i) (v .at) (drop (v .at) s)) _ _ (sym (answer (c .before .before .before .before)) ∙ c .enum-told2 .given .1) in
     let kept : next ≡ v .phrase =
-    left (c .before .before .before .before) ∙ ap (λ o. notePut bs o (v .phrase) (v .i)) q in
-    let stop = noted-stop s bs (a .n) (a .count) (a .start) (v .i) (v .at) (v .phrase) x (c .before .before .before .before .before .before .before .loop-test .taken) _ _ q in
-    let r = carried (λ o. HoldsNotes bs (listOf o) next) stop (begins-none bs next) in
-    (c .enum-told2 .given .1 ∙ r .0, (subst (HoldsBells bs) (sym kept) (noted-bells s bs (a .n) (a .count) (a .start) (v .i) (v .at) (v .phrase) x), r .1))
+    left (c .before .before .before .before) ∙ ap (λ o. notePut (a .shift) bs o (v .phrase) (v .i)) q in
+    let stop = noted-stop s (a .shift) bs (a .n) (a .count) (a .start) (v .i) (v .at) (v .phrase) x (c .before .before .before .before .before .before .before .loop-test .taken) _ _ q in
+    let r = carried (λ o. HoldsNotes (a .shift) bs (listOf o) next) stop (begins-none (a .shift) bs next) in
+    (c .enum-told2 .given .1 ∙ r .0, (subst (HoldsBells bs) (sym kept) (noted-bells s (a .shift) bs (a .n) (a .count) (a .start) (v .i) (v .at) (v .phrase) x), r .1))
 
 byte-requires : tie.Need-byte-requires Inv-loop μ-loop
 byte-requires c κs = omega (arith, fits c)
@@ -148,15 +148,15 @@ loop-again c =
     let bs = bellsHeld (now (a .phrase)) (a .n) in
     let x = v .inv .3 in
     let b = taken (c .before) in
-    let next = placed (v .phrase) (noteRowsAt + v .i * noteWords) (noteRow bs (b .0)) in
-    let put : c .before .before .before .before .before .read-note .last .1 .1 .0 ≡ next =
-    left (called (c .before)) ∙ ap (λ o. notePut bs o (v .phrase) (v .i)) (b .1) in
-    let more = noted-more s bs (a .n) (a .count) (a .start) (v .i) (v .at) (v .phrase) x (c .before .before .before .before .before .before .before .before .loop-test .taken) (b .0) (b .1) (room (c .before .before .before .before .before .before .before)) (c .before .before .before .before .before .before .before .before .before .before .before .before .pre .2) in (
+    let next = placed (v .phrase) (noteRowsAt + v .i * noteWords) (noteRow (a .shift) bs (b .0)) in
+    let put : c .before .before .before .before .before .read-note .last .1 .1 .1 .0 ≡ next =
+    left (called (c .before)) ∙ ap (λ o. notePut (a .shift) bs o (v .phrase) (v .i)) (b .1) in
+    let more = noted-more s (a .shift) bs (a .n) (a .count) (a .start) (v .i) (v .at) (v .phrase) x (c .before .before .before .before .before .before .before .before .loop-test .taken) (b .0) (b .1) (room (c .before .before .before .before .before .before .before)) (c .before .before .before .before .before .before .before .before .before .before .before .before .pre .2) in (
       omega arith,
       omega (arith, fits (c .before), c .byte .ensures .0),
-      c .before .before .before .before .before .read-note .kept .1 .1 .0 ∙ v .inv .2,
-      subst (λ t. Noted s bs (a .n) (a .count) (a .start) (v .i + 1) (v .at + (1 + c .byte .result)) t) (sym put)
-          (subst (λ size. Noted s bs (a .n) (a .count) (a .start) (v .i + 1) (v .at + (1 + size)) next) (sym (c .byte .ensures .0)) more),
+      c .before .before .before .before .before .read-note .kept .1 .1 .1 .0 ∙ v .inv .2,
+      subst (λ t. Noted s (a .shift) bs (a .n) (a .count) (a .start) (v .i + 1) (v .at + (1 + c .byte .result)) t) (sym put)
+          (subst (λ size. Noted s (a .shift) bs (a .n) (a .count) (a .start) (v .i + 1) (v .at + (1 + size)) next) (sym (c .byte .ensures .0)) more),
     )
 
 same-length-2 : tie.Need-same-length-2 Inv-loop μ-loop
@@ -169,8 +169,8 @@ returns-2 c =
     let s = now (a .file) in
     let bs = bellsHeld (now (a .phrase)) (a .n) in
     let x = v .inv .3 in
-    let r = carried (λ o. HoldsNotes bs (listOf o) (v .phrase)) (noted-remain s bs (a .n) (a .count) (a .start) (v .i) (v .at) (v .phrase) x (c .before .loop-test .left) (c .if1 .taken)) (begins-none bs (v .phrase)) in
-    (r .0, (noted-bells s bs (a .n) (a .count) (a .start) (v .i) (v .at) (v .phrase) x, r .1))
+    let r = carried (λ o. HoldsNotes (a .shift) bs (listOf o) (v .phrase)) (noted-remain s (a .shift) bs (a .n) (a .count) (a .start) (v .i) (v .at) (v .phrase) x (c .before .loop-test .left) (c .if1 .taken)) (begins-none (a .shift) bs (v .phrase)) in
+    (r .0, (noted-bells s (a .shift) bs (a .n) (a .count) (a .start) (v .i) (v .at) (v .phrase) x, r .1))
 
 same-length-3 : tie.Need-same-length-3 Inv-loop μ-loop
 same-length-3 c = c .before .before .loop .inv .2
@@ -182,8 +182,8 @@ returns-3 c =
     let s = now (a .file) in
     let bs = bellsHeld (now (a .phrase)) (a .n) in
     let x = v .inv .3 in
-    let r = carried (λ o. HoldsNotes bs (listOf o) (v .phrase)) (noted-done s bs (a .n) (a .count) (a .start) (v .i) (v .at) (v .phrase) x (c .before .loop-test .left) (c .if1 .left)) (x .rows) in
-    (r .0, (noted-bells s bs (a .n) (a .count) (a .start) (v .i) (v .at) (v .phrase) x, r .1))
+    let r = carried (λ o. HoldsNotes (a .shift) bs (listOf o) (v .phrase)) (noted-done s (a .shift) bs (a .n) (a .count) (a .start) (v .i) (v .at) (v .phrase) x (c .before .loop-test .left) (c .if1 .left)) (x .rows) in
+    (r .0, (noted-bells s (a .shift) bs (a .n) (a .count) (a .start) (v .i) (v .at) (v .phrase) x, r .1))
 
 pub notes-from-spec : {M : Type 1} → statement M
 notes-from-spec =

@@ -37,7 +37,7 @@ returns c =
     let a = c .before .before .before .args in
     let t = now (a .phrase) in
     let bs = bellsHeld t (a .n) in
-    carried (λ o. t ≡ notePut bs o t (a .own)) (no-length first bs (a .own) (a .at) (now (a .part)) (c .if1 .taken)) refl
+    carried (λ o. t ≡ notePut (a .shift) bs o t (a .own)) (no-length first (a .shift) bs (a .own) (a .at) (now (a .part)) (c .if1 .taken)) refl
 
 byte-requires : tie.Need-byte-requires
 byte-requires c κs = search needs
@@ -51,7 +51,7 @@ returns-2 c =
     let t = now (a .phrase) in
     let bs = bellsHeld t (a .n) in
     let wrong = sym (tested (c .before)) ∙ not-true (c .before .is-note-length .result) (c .if2 .taken) in
-    carried (λ o. t ≡ notePut bs o t (a .own)) (bad-length first bs (a .own) (a .at) (now (a .part)) (c .before .before .before .if1 .left) wrong) refl
+    carried (λ o. t ≡ notePut (a .shift) bs o t (a .own)) (bad-length first (a .shift) bs (a .own) (a .at) (now (a .part)) (c .before .before .before .if1 .left) wrong) refl
 
 cast-if3 : tie.Need-cast-if3
 cast-if3 c = search needs
@@ -61,12 +61,12 @@ returns-3 c =
     let a = c .before .before .before .before .before .before .before .args in
     let t = now (a .phrase) in
     let bs = bellsHeld t (a .n) in
-    carried (λ o. t ≡ notePut bs o t (a .own)) (cut first bs (a .own) (a .at) (now (a .part)) (c .before .before .before .before .if1 .left) (sized (c .before)) (omega (arith, c .if3 .taken, c .before .before .before .byte .ensures .0))) refl
+    carried (λ o. t ≡ notePut (a .shift) bs o t (a .own)) (cut first (a .shift) bs (a .own) (a .at) (now (a .part)) (c .before .before .before .before .if1 .left) (sized (c .before)) (omega (arith, c .if3 .taken, c .before .before .before .byte .ensures .0))) refl
 
 note-fields-requires : tie.Need-note-fields-requires
 note-fields-requires c κs =
     let a = c .before .before .before .before .before .before .before .before in
-    (record { size = sized (c .before .before); whole = whole (c .before) }, a .pre .0, a .pre .1, a .pre .2, a .pre .3)
+    (record { size = sized (c .before .before); whole = whole (c .before) }, a .pre .0, a .pre .1, a .pre .2, a .pre .3, a .pre .4)
 
 same-length : tie.Need-same-length
 same-length c = search needs
@@ -76,8 +76,8 @@ returns-4 c =
     let a = c .before .before .before .before .before .before .before .before .before .before .before .args in
     let t = now (a .phrase) in
     let bs = bellsHeld t (a .n) in
-    let e = there first bs (a .own) (a .at) (now (a .part)) (c .before .before .before .before .before .before .before .before .if1 .left) (sized (c .before .before .before .before .before)) (whole (c .before .before .before .before)) in
-    let q = carried (λ o. c .before .before .note-fields .last .1 .1 .0 ≡ notePut bs o t (a .own)) e (c .before .before .note-fields .ensures .1) in
+    let e = there first (a .shift) bs (a .own) (a .at) (now (a .part)) (c .before .before .before .before .before .before .before .before .if1 .left) (sized (c .before .before .before .before .before)) (whole (c .before .before .before .before)) in
+    let q = carried (λ o. c .before .before .note-fields .last .1 .1 .1 .0 ≡ notePut (a .shift) bs o t (a .own)) e (c .before .before .note-fields .ensures .1) in
     (c .before .before .note-fields .ensures .0 ∙ q .0, q .1)
 
 pub read-note-spec : {M : Type 1} → statement M

@@ -9,6 +9,7 @@ use Rattle.format.specs.Bytes.{number}
 use Rattle.format.specs.Layout.{first, noteCountAt}
 use Rattle.format.specs.Outcome.{refused}
 use Rattle.format.specs.Reading.{notesFrom}
+use Rattle.fields.specs.internal.Layouts.{layoutOf}
 use Rattle.rows.proofs.BellRow.{table-begins}
 use Rattle.rows.proofs.NoteRow.{begins-none}
 use Rattle.records.specs.internal.Filling.{listOf, bellsHeld, HoldsNotes}
@@ -29,8 +30,8 @@ returns c =
     let s = now (a .file) in
     let bs = bellsHeld t (a .n) in
     let e = c .before .note-count-at .ensures in
-    let r = carried (λ o. HoldsNotes bs (listOf o) t) (no-count s bs (noteCountAt first (a .n)) (omega (arith, e)) ∙ ap (refused wrongEnd) (sym e)) (begins-none bs t) in
-    (r .0, (table-begins t (a .n) (pre .3), r .1))
+    let r = carried (λ o. HoldsNotes (a .shift) bs (listOf o) t) (no-count (a .l) s (a .shift) bs (noteCountAt (layoutOf (a .l)) (a .n)) (omega (arith, e)) ∙ ap (refused wrongEnd) (sym e)) (begins-none (a .shift) bs t) in
+    (r .0, (table-begins t (a .n) (pre .5), r .1))
 
 byte-requires : tie.Need-byte-requires
 byte-requires c κs = search needs
@@ -47,8 +48,8 @@ returns-2 c =
     let bs = bellsHeld t (a .n) in
     let e = c .before .before .before .note-count-at .ensures in
     let k = c .before .byte .ensures .0 ∙ ap (λ at. number 1 at s) e in
-    let r = carried (λ o. HoldsNotes bs (listOf o) t) (bad-count s bs (noteCountAt first (a .n)) (omega (arith, e)) (omega (arith, k)) ∙ ap (refused tooManyNotes) (sym e)) (begins-none bs t) in
-    (r .0, (table-begins t (a .n) (pre .3), r .1))
+    let r = carried (λ o. HoldsNotes (a .shift) bs (listOf o) t) (bad-count (a .l) s (a .shift) bs (noteCountAt (layoutOf (a .l)) (a .n)) (omega (arith, e)) (omega (arith, k)) ∙ ap (refused tooManyNotes) (sym e)) (begins-none (a .shift) bs t) in
+    (r .0, (table-begins t (a .n) (pre .5), r .1))
 
 add-notes-from : tie.Need-add-notes-from
 add-notes-from c = search needs
@@ -64,12 +65,12 @@ returns-3 c =
     let a = c .before .before .before .before .before .before .before .before .before .before .args in
     let s = now (a .file) in
     let bs = bellsHeld (now (a .phrase)) (a .n) in
-    let at = noteCountAt first (a .n) in
+    let at = noteCountAt (layoutOf (a .l)) (a .n) in
     let e = c .before .before .before .before .before .before .before .note-count-at .ensures in
     let k = c .before .before .before .before .before .byte .ensures .0 ∙ ap (λ m. number 1 m s) e in
-    let w : notesFrom first s bs (number 1 at s) (at + 1) [] ≡ notesFrom first s bs (c .before .before .before .before .before .byte .result) (c .before .before .before .before .before .before .before .note-count-at .result + 1) [] =
-    λ i. notesFrom first s bs (sym k i) (sym e i + 1) [] in
-    let q = carried (λ o. HoldsNotes bs (listOf o) (c .before .before .notes-from .last .1 .1 .1 .0)) (right-count s bs at (omega (arith, e)) (omega (arith, k)) ∙ w) (c .before .before .notes-from .ensures .1 .1) in
+    let w : notesFrom first s (a .shift) bs (number 1 at s) (at + 1) [] ≡ notesFrom first s (a .shift) bs (c .before .before .before .before .before .byte .result) (c .before .before .before .before .before .before .before .note-count-at .result + 1) [] =
+    λ i. notesFrom first s (a .shift) bs (sym k i) (sym e i + 1) [] in
+    let q = carried (λ o. HoldsNotes (a .shift) bs (listOf o) (c .before .before .notes-from .last .1 .1 .1 .1 .0)) (right-count (a .l) s (a .shift) bs at (omega (arith, e)) (omega (arith, k)) ∙ w) (c .before .before .notes-from .ensures .1 .1) in
     (c .before .before .notes-from .ensures .0 ∙ q .0, (c .before .before .notes-from .ensures .1 .0, q .1))
 
 pub read-notes-spec : {M : Type 1} → statement M

@@ -27,7 +27,9 @@ unfolding lines placed
 loop-holds c = (omega arith, record { ended = refl; holds = refl }, refl)
 
 stroke-requires : tie.Need-stroke-requires Inv-loop μ-loop
-stroke-requires c κs = omega (arith, c .before .before .before .before .pre .0)
+stroke-requires c κs =
+    let a = c .before .before .before .before in
+    (omega (arith, a .pre .0), a .pre .1 (c .before .before .loop .i) (omega arith) .2)
 
 put-stroke-requires : tie.Need-put-stroke-requires Inv-loop μ-loop
 put-stroke-requires c κs =

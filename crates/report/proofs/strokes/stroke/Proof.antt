@@ -3,11 +3,11 @@ use borrow.Author.Needs.{needs}
 use Rattle.report.proofs.strokes.stroke.Statement.{statement}
 use Rattle.report.proofs.strokes.stroke.Tie as tie
 
+shifted-key-requires : tie.Need-shifted-key-requires
+shifted-key-requires c κs = search needs
+
 note-word-requires : tie.Need-note-word-requires
 note-word-requires c κs = search needs
-
-note-word-requires-2 : tie.Need-note-word-requires-2
-note-word-requires-2 c κs = search needs
 
 mul-t9 : tie.Need-mul-t9
 mul-t9 c = search needs
@@ -33,21 +33,21 @@ mul-t21 c = search needs
 element-copy-out-t24 : tie.Need-element-copy-out-t24
 element-copy-out-t24 c = search needs
 
-note-word-requires-3 : tie.Need-note-word-requires-3
-note-word-requires-3 c κs = search needs
+note-word-requires-2 : tie.Need-note-word-requires-2
+note-word-requires-2 c κs = search needs
 
 returns : tie.Need-returns
 returns c =
-    let key = c .before .before .before .before .before .before .note-word .ensures in
-    let bell = c .before .before .before .before .before .note-word2 .ensures in
-    rw (key, bell, c .note-word3 .ensures)
+    let key = c .before .before .before .before .before .before .shifted-key .ensures in
+    let bell = c .before .before .before .before .before .note-word .ensures in
+    rw (key, bell, c .note-word2 .ensures)
 
 pub stroke-spec : {M : Type 1} → statement M
 stroke-spec =
     tie.close
     (tie.spec
+    shifted-key-requires
     note-word-requires
-    note-word-requires-2
     mul-t9
     element-copy-out-t12
     mul-t13
@@ -56,5 +56,5 @@ stroke-spec =
     element-copy-out-t20
     mul-t21
     element-copy-out-t24
-    note-word-requires-3
+    note-word-requires-2
     returns)

@@ -24,7 +24,9 @@ unfolding lines
 loop-holds c = (omega arith, refl, omega arith)
 
 stroke-requires : tie.Need-stroke-requires Inv-loop μ-loop
-stroke-requires c κs = omega (arith, c .before .before .pre .0)
+stroke-requires c κs =
+    let a = c .before .before in
+    (omega (arith, a .pre .0), a .pre .1 (c .before .loop .i) (omega arith) .2)
 
 stroke-length-requires : tie.Need-stroke-length-requires Inv-loop μ-loop
 stroke-length-requires c κs = rw (c .stroke .ensures) (c .before .before .before .pre .1 (c .before .before .loop .i) (omega arith) .0)

@@ -9,7 +9,7 @@ use denote.Ref.{now}
 use borrow.Author.Tests.{not-true, not-false}
 use borrow.Author.Needs.{needs}
 use Rattle.format.specs.Layout.{first}
-use Rattle.format.specs.Phrase.{Bell, sounding, find, isSome}
+use Rattle.format.specs.Phrase.{Bell, sounding, findSounding, isSome}
 use Rattle.format.specs.Rules.{bellInRange}
 use Rattle.format.proofs.Ranges.{bell-ranges}
 use Rattle.format.proofs.Steps.{outside, doubled, whole}
@@ -42,7 +42,7 @@ sounds c = c .before .before .transposed .ensures
 
 -- the mark of its key, by the bells that the marks tell of
 told : (c : tie.After-is-sounded) (before : List Bell) → Sounded before (now (start (tested c .before) .args .sounded))
-    → c .is-sounded .result ≡ isSome (find (sounding (bell (tested c .before))) before)
+    → c .is-sounded .result ≡ isSome (findSounding (sounding (bell (tested c .before))) before)
 told c before s =
     let marks = now (start (tested c .before) .args .sounded) in
     c .is-sounded .ensures ∙ ap (λ k. eqb (getD marks k 0) 1) (sounds c) ∙ mark-tells before marks s (sounding (bell (tested c .before)))

@@ -7,7 +7,7 @@ use denote.Ref.{now}
 use borrow.Author.Needs.{needs}
 use lib.ListN.{length, getD, take, drop}
 use lib.Seq.{take-suc, take-all}
-use Rattle.format.specs.Layout.{first, bellsAt, bellBytes}
+use Rattle.format.specs.Layout.{first, bellBytes}
 use Rattle.format.specs.Jobs.{noBell}
 use Rattle.format.specs.Outcome.{Outcome, ok}
 use Rattle.format.specs.Phrase.{Bell}
@@ -30,15 +30,15 @@ abbrev bells : List ℕ → ℕ → List Bell
 bells phrase n = bellsOfRows (drop bellRowsAt phrase) n
 
 abbrev Inv-loop : tie.InvT-loop
-Inv-loop phrase n sounded₀ at₀ i₀ sounded at i =
+Inv-loop phrase start n sounded₀ at₀ i₀ sounded at i =
     (i ≤ n)
-    × (at ≡ bellsAt first + i * bellBytes first)
+    × (at ≡ start + i * bellBytes first)
     × (length sounded ≡ length sounded₀)
     × Sounded (take i (bells phrase n)) sounded
-    × (bellsRules first (drop i (bells phrase n)) at (take i (bells phrase n)) ≡ bellsRules first (bells phrase n) (bellsAt first) [])
+    × (bellsRules first (drop i (bells phrase n)) at (take i (bells phrase n)) ≡ bellsRules first (bells phrase n) start [])
 
 abbrev μ-loop : tie.MeasureT-loop
-μ-loop phrase n sounded₀ at₀ i₀ sounded at i = n - i
+μ-loop phrase start n sounded₀ at₀ i₀ sounded at i = n - i
 
 abbrev loop : tie.After-ask-bell Inv-loop μ-loop → tie.At-loop Inv-loop μ-loop
 loop c = c .before .before .before .before
@@ -89,7 +89,7 @@ more c =
     ap (λ b. take i (all c) ++ b ∷ []) (row c) ∙ sym (take-suc (all c) i noBell short) ∙ ap (λ k. take k (all c)) one
 
 loop-holds : tie.Need-loop-holds Inv-loop μ-loop
-loop-holds c = (omega arith, omega arith, refl, c .before .before .pre .3, refl)
+loop-holds c = (omega arith, omega arith, refl, c .before .before .pre .4, refl)
 
 mul-from : tie.Need-mul-from Inv-loop μ-loop
 mul-from c = omega arith
@@ -118,7 +118,7 @@ ask-bell-requires c κs =
     let v = c .before .before .before .loop in
     let from = bellRowsAt + v .i * bellWords in
     let width : from + bellWords - from ≡ bellWords = omega arith in
-    (part-length from (from + bellWords - from) (now (a .args .phrase)) (omega arith) ∙ width, omega (arith, v .inv .2, a .pre .2))
+    (part-length from (from + bellWords - from) (now (a .args .phrase)) (omega arith) ∙ width, omega (arith, v .inv .2, a .pre .3))
 
 enum-told : tie.Need-enum-told Inv-loop μ-loop
 enum-told c = search needs

@@ -9,7 +9,7 @@ use denote.Ref.{now}
 use borrow.Author.Tests.{not-true, not-false}
 use borrow.Author.Needs.{needs}
 use Rattle.format.specs.Layout.{mostListed}
-use Rattle.format.specs.Phrase.{Bell, Note, find, isSome}
+use Rattle.format.specs.Phrase.{Bell, Note, transposed, find, isSome}
 use Rattle.format.specs.Rules.{areTimes, rises}
 use Rattle.format.proofs.Steps.{no-bell, bad-times, bad-listed, right}
 use Rattle.rows.specs.NoteRow.{listedCountWord, listedWord, noteOfRow}
@@ -28,7 +28,7 @@ note s = noteOfRow (now (s .args .row))
 abbrev counted : tie.Else1 → tie.Start
 counted c = c .before .before .before .before
 
-abbrev looked : tie.After-is-sounded → tie.Start
+abbrev looked : tie.After-is-struck → tie.Start
 looked c = counted (c .before .before)
 
 abbrev timed : tie.After-are-times → tie.Else2
@@ -42,11 +42,11 @@ risen c = c .before .before
 few : (c : tie.Else1) → length (note (counted c) .listed) ≤ mostListed
 few c =
     let s = counted c in
-    omega (arith, s .pre, c .if1 .left, listed-count (now (s .args .row)) (omega (arith, s .pre)) (c .if1 .left))
+    omega (arith, s .pre .0, c .if1 .left, listed-count (now (s .args .row)) (omega (arith, s .pre .0)) (c .if1 .left))
 
-told : (c : tie.After-is-sounded) (bells : List Bell) → Sounded bells (now (looked c .args .sounded))
-    → c .is-sounded .result ≡ isSome (find (note (looked c) .key) bells)
-told c bells m = c .is-sounded .ensures ∙ mark-tells bells (now (looked c .args .sounded)) m (note (looked c) .key)
+told : (c : tie.After-is-struck) (bells : List Bell) → Sounded bells (now (looked c .args .sounded))
+    → c .is-struck .result ≡ isSome (find (note (looked c) .key) (looked c .args .shift) bells)
+told c bells m = c .is-struck .ensures ∙ mark-tells bells (now (looked c .args .sounded)) m (transposed (note (looked c) .key) (looked c .args .shift))
 
 times : (c : tie.Else3) → let n = note (looked (timed (c .before) .before)) in areTimes (n .earliestRelease) (n .latestRelease) (n .deadline) ≡ true
 times c = sym (c .before .are-times .ensures) ∙ not-false (c .before .are-times .result) (c .if3 .left)
@@ -67,21 +67,21 @@ returns : tie.Need-returns
 returns c =
     let s = c .before .before .before .before in
     let r = now (s .args .row) in
-    λ bells m. ap readingOf (sym (crowded bells (s .args .own) (s .args .at) (note s) (listed-long r (omega (arith, s .pre)) (c .if1 .taken))))
+    λ bells m. ap readingOf (sym (crowded (s .args .shift) bells (s .args .own) (s .args .at) (note s) (listed-long r (omega (arith, s .pre .0)) (c .if1 .taken))))
 
-shared-slice-read-is-sounded : tie.Need-shared-slice-read-is-sounded
-shared-slice-read-is-sounded c = search needs
+shared-slice-read-is-struck : tie.Need-shared-slice-read-is-struck
+shared-slice-read-is-struck c = search needs
 
-is-sounded-requires : tie.Need-is-sounded-requires
-is-sounded-requires c κs = search needs
+is-struck-requires : tie.Need-is-struck-requires
+is-struck-requires c κs = let s = counted (c .before) in (s .pre .2, s .pre .1)
 
 returns-2 : tie.Need-returns-2
 returns-2 c =
     let d = c .before in
     let s = looked d in
     λ bells m.
-    let none = none-there _ (sym (told d bells m) ∙ not-true (d .is-sounded .result) (c .if2 .taken)) in
-    ap readingOf (sym (roomy bells (s .args .own) (s .args .at) (note s) (few (d .before .before)) ∙ no-bell bells (s .args .own) (s .args .at) (note s) none))
+    let none = none-there _ (sym (told d bells m) ∙ not-true (d .is-struck .result) (c .if2 .taken)) in
+    ap readingOf (sym (roomy (s .args .shift) bells (s .args .own) (s .args .at) (note s) (few (d .before .before)) ∙ no-bell (s .args .shift) bells (s .args .own) (s .args .at) (note s) none))
 
 shared-slice-read-are-times : tie.Need-shared-slice-read-are-times
 shared-slice-read-are-times c = search needs
@@ -100,10 +100,10 @@ returns-3 c =
     let e = timed (c .before) in
     let s = looked (e .before) in
     λ bells m.
-    let (k, found) = some-there _ (sym (told (e .before) bells m) ∙ not-false (e .before .is-sounded .result) (e .if2 .left)) in
+    let (k, found) = some-there _ (sym (told (e .before) bells m) ∙ not-false (e .before .is-struck .result) (e .if2 .left)) in
     let wrong = sym (c .before .are-times .ensures) ∙ not-true (c .before .are-times .result) (c .if3 .taken) in
     ap readingOf
-    (sym (roomy bells (s .args .own) (s .args .at) (note s) (few (e .before .before .before)) ∙ bad-times bells (s .args .own) (s .args .at) (note s) k found wrong))
+    (sym (roomy (s .args .shift) bells (s .args .own) (s .args .at) (note s) (few (e .before .before .before)) ∙ bad-times (s .args .shift) bells (s .args .own) (s .args .at) (note s) k found wrong))
 
 cast-do-rise : tie.Need-cast-do-rise
 cast-do-rise c = search needs
@@ -129,11 +129,11 @@ returns-4 c =
     let e = timed (t .before) in
     let s = looked (e .before) in
     λ bells m.
-    let (k, found) = some-there _ (sym (told (e .before) bells m) ∙ not-false (e .before .is-sounded .result) (e .if2 .left)) in
+    let (k, found) = some-there _ (sym (told (e .before) bells m) ∙ not-false (e .before .is-struck .result) (e .if2 .left)) in
     let fall = sym (rising (c .before)) ∙ not-true (c .before .do-rise .result) (c .if4 .taken) in
     ap readingOf
-    (sym (roomy bells (s .args .own) (s .args .at) (note s) (few (e .before .before .before))
-    ∙ bad-listed bells (s .args .own) (s .args .at) (note s) k found (times t) fall))
+    (sym (roomy (s .args .shift) bells (s .args .own) (s .args .at) (note s) (few (e .before .before .before))
+    ∙ bad-listed (s .args .shift) bells (s .args .own) (s .args .at) (note s) k found (times t) fall))
 
 returns-5 : tie.Need-returns-5
 returns-5 c =
@@ -141,10 +141,10 @@ returns-5 c =
     let e = timed (t .before) in
     let s = looked (e .before) in
     λ bells m.
-    let (k, found) = some-there _ (sym (told (e .before) bells m) ∙ not-false (e .before .is-sounded .result) (e .if2 .left)) in
+    let (k, found) = some-there _ (sym (told (e .before) bells m) ∙ not-false (e .before .is-struck .result) (e .if2 .left)) in
     let rise = sym (rising (c .before)) ∙ not-false (c .before .do-rise .result) (c .if4 .left) in
     ap readingOf
-    (sym (roomy bells (s .args .own) (s .args .at) (note s) (few (e .before .before .before)) ∙ right bells (s .args .own) (s .args .at) (note s) k found (times t) rise))
+    (sym (roomy (s .args .shift) bells (s .args .own) (s .args .at) (note s) (few (e .before .before .before)) ∙ right (s .args .shift) bells (s .args .own) (s .args .at) (note s) k found (times t) rise))
 
 pub ask-note-spec : {M : Type 1} → statement M
 ask-note-spec =
@@ -152,8 +152,8 @@ ask-note-spec =
     (tie.spec
     shared-slice-read-count
     returns
-    shared-slice-read-is-sounded
-    is-sounded-requires
+    shared-slice-read-is-struck
+    is-struck-requires
     returns-2
     shared-slice-read-are-times
     shared-slice-read-are-times-2

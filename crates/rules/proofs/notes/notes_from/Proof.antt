@@ -15,7 +15,6 @@ use Rattle.format.specs.Outcome.{Outcome, ok}
 use Rattle.format.specs.Phrase.{Bell, Note}
 use Rattle.format.specs.Rules.{notesRules}
 use Rattle.format.specs.Writing.{noteFile}
-use Rattle.format.proofs.First.{first-bytes}
 use Rattle.rows.specs.NoteRow.{noteWords, listedCountWord, listedWord, noteOfRow, notesOfRows}
 use Rattle.rows.specs.PhraseTable.{noteRowsAt, phraseOf}
 use Rattle.rows.proofs.Records.{rows-length}
@@ -39,34 +38,37 @@ abbrev notes : List ℕ → ℕ → List Note
 notes phrase n = notesOfRows (drop noteRowsAt phrase) n
 
 abbrev Inv-loop : tie.InvT-loop
-Inv-loop phrase start count sounded at₀ i₀ at i =
+Inv-loop phrase start count sounded shift at₀ i₀ at i =
     (i ≤ count)
     × (at ≡ start + length (records (noteFile first) (take i (notes phrase count))))
     × (at ≤ start + i * 18)
-    × (notesRules first (phraseOf phrase .bells) (drop i (notes phrase count)) at (take i (notes phrase count))
-    ≡ notesRules first (phraseOf phrase .bells) (notes phrase count) start [])
+    × (notesRules first (phraseOf phrase .shift) (phraseOf phrase .bells) (drop i (notes phrase count)) at (take i (notes phrase count))
+    ≡ notesRules first (phraseOf phrase .shift) (phraseOf phrase .bells) (notes phrase count) start [])
 
 abbrev μ-loop : tie.MeasureT-loop
-μ-loop phrase start count sounded at₀ i₀ at i = count - i
+μ-loop phrase start count sounded shift at₀ i₀ at i = count - i
 
 abbrev loop : tie.After-ask-note Inv-loop μ-loop → tie.At-loop Inv-loop μ-loop
 loop c = c .before .before .before
 
 abbrev start : tie.After-ask-note Inv-loop μ-loop → tie.Start Inv-loop μ-loop
-start c = loop c .before .before .before
+start c = loop c .before .before .before .before
 
--- the notes that are asked, the bells that they may strike, and what is asked of the one in hand
+-- the notes that are asked, the bells that they may strike and by which shift, and what is asked of the one in hand
 abbrev all : tie.After-ask-note Inv-loop μ-loop → List Note
 all c = notes (now (start c .args .phrase)) (start c .args .count)
 
 abbrev bells : tie.After-ask-note Inv-loop μ-loop → List Bell
 bells c = phraseOf (now (start c .args .phrase)) .bells
 
+abbrev shift : tie.After-ask-note Inv-loop μ-loop → ℕ
+shift c = phraseOf (now (start c .args .phrase)) .shift
+
 abbrev note : tie.After-ask-note Inv-loop μ-loop → Note
 note c = getD (all c) (loop c .loop .i) noNote
 
 abbrev outcome : tie.After-ask-note Inv-loop μ-loop → Outcome Note
-outcome c = noteAsked (bells c) (loop c .loop .i) (loop c .loop .at) (note c)
+outcome c = noteAsked (shift c) (bells c) (loop c .loop .i) (loop c .loop .at) (note c)
 
 -- the words that its row begins
 abbrev words : tie.After-ask-note Inv-loop μ-loop → List ℕ
@@ -85,10 +87,10 @@ answer c =
     let v = loop c .loop in
     let from = noteRowsAt + v .i * noteWords in
     let width : from + noteWords - from ≡ noteWords = omega arith in
-    c .ask-note .ensures (bells c) (start c .pre .3)
-    ∙ ap (λ k. readingOf (noteAsked (bells c) (v .i) (v .at) (noteOfRow (take k (words c))))) width
-    ∙ ap readingOf (asked-lent (bells c) (v .i) (v .at) (words c) (wide c))
-    ∙ ap (λ n. readingOf (noteAsked (bells c) (v .i) (v .at) n)) (lent c)
+    c .ask-note .ensures (bells c) (start c .pre .5)
+    ∙ ap (λ k. readingOf (noteAsked (shift c) (bells c) (v .i) (v .at) (noteOfRow (take k (words c))))) width
+    ∙ ap readingOf (asked-lent (shift c) (bells c) (v .i) (v .at) (words c) (wide c))
+    ∙ ap (λ n. readingOf (noteAsked (shift c) (bells c) (v .i) (v .at) n)) (lent c)
 
 -- ---- the note passes
 
@@ -108,7 +110,7 @@ sized c =
     let d = c .before .before in
     let v = loop d .loop in
     let from = noteRowsAt + v .i * noteWords in
-    let few : length (note d .listed) ≤ mostListed = leb-true (length (note d .listed)) mostListed (same-note (bells d) (v .i) (v .at) (note d) (taken c .0) (taken c .1) .0) in
+    let few : length (note d .listed) ≤ mostListed = leb-true (length (note d .listed)) mostListed (same-note (shift d) (bells d) (v .i) (v .at) (note d) (taken c .0) (taken c .1) .0) in
     let same : length (noteOfRow (words d) .listed) ≡ length (note d .listed) = ap (λ n. length (n .listed)) (lent d) in
     let kept : count d ≡ getD (words d) listedCountWord 0 = getD-take (from + noteWords - from) (words d) listedCountWord 0 (omega arith) in
     let taken-length = length-take (getD (words d) listedCountWord 0) (drop listedWord (words d)) in
@@ -120,9 +122,12 @@ short c =
     let test = c .before .before .loop-test .taken in
     omega (arith, rows-length noteOfRow noteWords (drop noteRowsAt (now (start c .args .phrase))) (start c .args .count))
 
+shared-slice-read-shift : tie.Need-shared-slice-read-shift Inv-loop μ-loop
+shared-slice-read-shift c = search needs
+
 loop-holds : tie.Need-loop-holds Inv-loop μ-loop
 loop-holds c =
-    let a = c .before .before .args in
+    let a = c .before .before .before .args in
     (omega arith, omega (arith, no-bytes (notes (now (a .phrase)) (a .count))), omega arith, refl)
 
 mul-from : tie.Need-mul-from Inv-loop μ-loop
@@ -151,11 +156,11 @@ cast-ask-note c = omega arith
 
 ask-note-requires : tie.Need-ask-note-requires Inv-loop μ-loop
 ask-note-requires c κs =
-    let a = c .before .before .before .before .before in
+    let a = c .before .before .before .before .before .before in
     let v = c .before .before .loop in
     let from = noteRowsAt + v .i * noteWords in
     let width : from + noteWords - from ≡ noteWords = omega arith in
-    part-length from (from + noteWords - from) (now (a .args .phrase)) (omega arith) ∙ width
+    (part-length from (from + noteWords - from) (now (a .args .phrase)) (omega arith) ∙ width, a .pre .3, a .pre .4)
 
 enum-known-number : tie.Need-enum-known-number Inv-loop μ-loop
 enum-known-number c = search needs
@@ -166,7 +171,7 @@ returns c =
     let a = start d .args in
     let v = loop d .loop in
     let q = was-refused (outcome d) _ _ (sym (answer d) ∙ c .before .number .given .1) in
-    let w = sym (v .inv .3) ∙ stop-note first (bells d) (all d) (v .i) (v .at) (short d) _ _ q in
+    let w = sym (v .inv .3) ∙ stop-note first (shift d) (bells d) (all d) (v .i) (v .at) (short d) _ _ q in
     ap (λ o. endOf o (notesEnd (a .start) (all d))) (sym w)
 
 enum-told : tie.Need-enum-told Inv-loop μ-loop
@@ -193,7 +198,7 @@ add-at-2 c = omega (arith, sized (c .before))
 add-at-3 : tie.Need-add-at-3 Inv-loop μ-loop
 add-at-3 c =
     let d = c .before .before .before in
-    omega (arith, sized (c .before), loop d .loop .inv .2, start d .pre .1, start d .pre .2, first-bytes)
+    omega (arith, sized (c .before), loop d .loop .inv .2, start d .pre .1, start d .pre .2)
 
 add-i : tie.Need-add-i Inv-loop μ-loop
 add-i c = omega arith
@@ -209,22 +214,22 @@ loop-again c =
     let z = sized e in
     let k = length (note d .listed) in
     let more = more-bytes (all d) (v .i) (short d) in
-    let next = next-note first (bells d) (all d) (v .i) (v .at) (short d) (taken e .0) (taken e .1) in
+    let next = next-note first (shift d) (bells d) (all d) (v .i) (v .at) (short d) (taken e .0) (taken e .1) in
     let step : v .at + (14 + count d) ≡ v .at + (1 + noteLength first k) = omega (arith, z .0, noteLength-first k) in (
       omega arith,
       omega (arith, v .inv .1, more, step),
       omega (arith, z .0, z .1),
-      ap (λ p. notesRules first (bells d) (drop (v .i + 1) (all d)) p (take (v .i + 1) (all d))) step ∙ sym next ∙ v .inv .3,
+      ap (λ p. notesRules first (shift d) (bells d) (drop (v .i + 1) (all d)) p (take (v .i + 1) (all d))) step ∙ sym next ∙ v .inv .3,
     )
 
 returns-2 : tie.Need-returns-2 Inv-loop μ-loop
 returns-2 c =
-    let a = c .before .before .before .before .args in
+    let a = c .before .before .before .before .before .args in
     let v = c .before .loop in
     let t = notes (now (a .phrase)) (a .count) in
-    let b = phraseOf (now (a .phrase)) .bells in
+    let x = phraseOf (now (a .phrase)) in
     let end : length t ≤ v .i = omega (arith, rows-length noteOfRow noteWords (drop noteRowsAt (now (a .phrase))) (a .count)) in
-    let w = sym (v .inv .3) ∙ last-note first b t (v .i) (v .at) end in
+    let w = sym (v .inv .3) ∙ last-note first (x .shift) (x .bells) t (v .i) (v .at) end in
     let place : v .at ≡ notesEnd (a .start) t = v .inv .1 ∙ ap (λ l. a .start + length (records (noteFile first) l)) (take-all (v .i) t end) in
     (λ k. endOf (sym w k) (place k))
 
@@ -234,6 +239,7 @@ notes-from-spec =
     (tie.spec
     Inv-loop
     μ-loop
+    shared-slice-read-shift
     loop-holds
     mul-from
     add-from

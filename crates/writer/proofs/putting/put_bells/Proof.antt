@@ -6,7 +6,7 @@ use denote.Ref.{now}
 use lib.ListN.{length}
 use borrow.Rule.Slice.PartMut.{putMid, same-len-mid}
 use Rattle.format.specs.Bytes.{records}
-use Rattle.format.specs.Layout.{first, bellsAt, bellBytes}
+use Rattle.format.specs.Layout.{first, bellBytes}
 use Rattle.format.specs.Writing.{bellFile}
 use Rattle.rows.specs.BellRow.{bellWords}
 use Rattle.rows.specs.PhraseTable.{bellRowsAt}
@@ -17,23 +17,23 @@ use Rattle.writer.proofs.putting.put_bells.Statement.{statement}
 use Rattle.writer.proofs.putting.put_bells.Tie as tie
 
 abbrev Inv-loop : tie.InvT-loop
-Inv-loop phrase n file₀ at₀ i₀ file at i =
-    (i ≤ n) × (length file ≡ length file₀) × (at ≡ bellPlace phrase n i) × (file ≡ put (bellFile first) (bells phrase n) (bellsAt first) file₀ i)
+Inv-loop phrase start n file₀ at₀ i₀ file at i =
+    (i ≤ n) × (length file ≡ length file₀) × (at ≡ bellPlace phrase n start i) × (file ≡ put (bellFile first) (bells phrase n) start file₀ i)
 
 abbrev μ-loop : tie.MeasureT-loop
-μ-loop phrase n file₀ at₀ i₀ file at i = n - i
+μ-loop phrase start n file₀ at₀ i₀ file at i = n - i
 
 room : (c : tie.In-loop Inv-loop μ-loop) → let l = c .before .loop in l .at + bellBytes first ≤ length (l .file)
 room c =
     let l = c .before in
     let a = l .before .before .before in
-    omega (arith, l .loop .inv .1, l .loop .inv .2, a .pre .2, bell-within (now (a .args .phrase)) (a .args .n) (a .pre .3) (l .loop .i) (c .loop-test .taken))
+    omega (arith, l .loop .inv .1, l .loop .inv .2, a .pre .2, bell-within (now (a .args .phrase)) (a .args .n) (a .pre .3) (l .loop .i) (c .loop-test .taken) (a .args .start))
 
 loop-holds : tie.Need-loop-holds Inv-loop μ-loop
 unfolding records
 loop-holds c =
     let a = c .before .before .args in
-    (omega arith, refl, refl, sym (put-none (bellFile first) (bells (now (a .phrase)) (a .n)) (bellsAt first) (now (a .file))))
+    (omega arith, refl, omega arith, sym (put-none (bellFile first) (bells (now (a .phrase)) (a .n)) (a .start) (now (a .file))))
 
 mul-from : tie.Need-mul-from Inv-loop μ-loop
 mul-from c = omega arith
@@ -105,9 +105,9 @@ loop-again c =
     let ws = one .put-bell .last .1 .0 in (
       omega arith,
       same-len-mid (v .at) k (v .file) ws (one .put-bell .kept .1 .0) ∙ v .inv .1,
-      omega (arith, v .inv .2, bell-next phrase n f (v .i) h),
+      omega (arith, v .inv .2, bell-next phrase n f (v .i) h (a .args .start)),
       ap (λ was. putMid (v .at) k was ws) (v .inv .3)
-          ∙ bell-put phrase n f (v .i) h m (omega arith) (now (a .args .file)) (omega arith) (v .at) k (v .inv .2) (omega arith) ws (one .put-bell .ensures),
+          ∙ bell-put phrase n f (v .i) h m (omega arith) (a .args .start) (now (a .args .file)) (omega arith) (v .at) k (v .inv .2) (omega arith) ws (one .put-bell .ensures),
     )
 
 same-length : tie.Need-same-length Inv-loop μ-loop
@@ -119,7 +119,7 @@ returns c =
     let a = l .before .before .before .args in
     let bs = bells (now (a .phrase)) (a .n) in
     let last : length bs ≤ l .loop .i = omega (arith, bells-count (now (a .phrase)) (a .n)) in
-    l .loop .inv .3 ∙ put-all (bellFile first) bs (bellsAt first) (now (a .file)) (l .loop .i) last
+    l .loop .inv .3 ∙ put-all (bellFile first) bs (a .start) (now (a .file)) (l .loop .i) last
 
 pub put-bells-spec : {M : Type 1} → statement M
 put-bells-spec =
