@@ -12,6 +12,7 @@ pub struct Layout {
     pub shift: usize,
 }
 
+// The last version; the first is 1.
 pub const VERSIONS: u32 = 2;
 
 const LAYOUTS: [Layout; 2] = [Layout { shift: 0 }, Layout { shift: 1 }];

@@ -44,6 +44,7 @@ unfolding sounding
 findFrom key i [] = none
 findFrom key i (b ∷ bs) = cond (eqb (sounding b) key) (some i) (findFrom key (i + 1) bs)
 
+-- the number of the first bell that sounds for a key
 abbrev pub findSounding : ℕ → List Bell → Option ℕ
 findSounding key = findFrom key 0
 
