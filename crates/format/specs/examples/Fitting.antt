@@ -5,6 +5,7 @@ use Rattle.format.specs.Layout.{layout, noteLength}
 use Rattle.format.specs.Fits.{All, Fits}
 use Rattle.format.specs.Writing.{body}
 use Rattle.format.specs.examples.Files.{bell, note, phrase, bell0, bell1, note0, phraseP, noted, belled}
+use Rattle.format.specs.examples.Shifts.{shifted}
 
 -- ---- P fits, and so does a phrase that the rules refuse: out of range, but not too wide
 
@@ -45,3 +46,26 @@ wide-due f = omega (arith, f .notes .0 .1 .1 .1 .1 .0)
 pub wide-wait : Fits (noted (note0 ∷ note 60 0 5 7 (256 ∷ []) ∷ [])) → ⊥
 unfolding All layout
 wide-wait f = omega (arith, f .notes .1 .0 .1 .1 .1 .1 .1 .0)
+
+-- ---- the shift: any byte fits in version 2, also one that the rules refuse; where the version has no byte for it, only 0 does
+
+pub far-shift : Fits (shifted 2 128 [])
+unfolding layout body All
+far-shift =
+    record {
+      head = (omega arith, (omega arith, (omega arith, (omega arith, (omega arith, tt)))));
+      bells = (
+        (omega arith, (omega arith, (omega arith, (omega arith, (omega arith, tt))))),
+        ((omega arith, (omega arith, (omega arith, (omega arith, (omega arith, tt))))), tt),
+      );
+      count = omega arith;
+      notes = tt;
+    }
+
+pub wide-shift : Fits (shifted 2 256 []) → ⊥
+unfolding layout
+wide-shift f = omega (arith, f .head .1 .1 .1 .0)
+
+pub first-shifted : Fits (shifted 1 1 []) → ⊥
+unfolding layout
+first-shifted f = omega (arith, f .head .1 .1 .1 .0)

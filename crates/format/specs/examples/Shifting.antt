@@ -1,13 +1,19 @@
--- Opposites, phrases written with a shift, and which can be. Assumes nothing.
+-- What is heard, opposites, phrases written with a shift, and which can be. Assumes nothing.
 use Prim.Native.Nat.{ℕ}
 use mathlib.Core.Path.{_≡_, refl}
 use mathlib.Core.List.{List, [], _∷_, map}
 use native.Mathlib.Omega.{arith}
 use Rattle.format.specs.Phrase.{Phrase}
 use Rattle.format.specs.Fits.{All}
-use Rattle.format.specs.Shifting.{opposite, shiftedBy, Movable}
+use Rattle.format.specs.Shifting.{heard, opposite, shiftedBy, Movable}
 use Rattle.format.specs.examples.Files.{note, note0, note1, phraseP, noted}
 use Rattle.format.specs.examples.Shifts.{shifted, phraseS}
+
+-- S, written as 64 and 78 with a shift of -4, is heard as P; a shift up, with a number listed; and a key that falls below zero
+pub heardTable :
+    map heard (phraseS ∷ phraseP ∷ shifted 2 4 (note 56 1 2 9 [] ∷ note 70 3 4 5 (0 ∷ []) ∷ []) ∷ shifted 2 252 (note 3 0 5 7 [] ∷ []) ∷ [])
+    ≡ (note0 ∷ note1 ∷ []) ∷ (note0 ∷ note1 ∷ []) ∷ (note 60 1 2 9 [] ∷ note 74 3 4 5 (0 ∷ []) ∷ []) ∷ (note 0 0 5 7 [] ∷ []) ∷ []
+heardTable = refl
 
 -- of 0, 1, 4 and 24, and of -4, -24 and -1
 pub opposites : map opposite (0 ∷ 1 ∷ 4 ∷ 24 ∷ 252 ∷ 232 ∷ 255 ∷ []) ≡ 0 ∷ 255 ∷ 252 ∷ 232 ∷ 4 ∷ 24 ∷ 1 ∷ []

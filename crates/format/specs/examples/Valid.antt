@@ -11,6 +11,7 @@ use Rattle.format.specs.Phrase.{Bell, sounding, Note, Phrase, findFrom}
 use Rattle.format.specs.Rules.{isShift, bellInRange, areTimes, rises}
 use Rattle.format.specs.Valid.{Each, Valid}
 use Rattle.format.specs.examples.Files.{bell, note, bell0, bell1, note0, phraseQ}
+use Rattle.format.specs.examples.Shifts.{phraseS}
 
 abbrev soundingFor : ℕ → ℕ → ℕ
 soundingFor n t = sounding (bell n t 1 1 0)
@@ -47,6 +48,25 @@ q-valid =
       };
     }
 
+-- keys of 64 and 78, which the shift of -4 moves to those of the bells
+pub s-valid : Valid phraseS
+unfolding isVersion layout isShift Each bellInRange findFrom areTimes rises
+s-valid =
+    record {
+      version = refl;
+      fields = record {
+        cores = omega arith;
+        shift = refl;
+        bellCount = omega arith;
+        bells = (record { inRange = refl; alone = refl }, (record { inRange = refl; alone = refl }, tt));
+        noteCount = omega arith;
+        notes = (
+          record { sounds = refl; times = refl; few = omega arith; rising = refl },
+          (record { sounds = refl; times = refl; few = omega arith; rising = refl }, tt),
+        );
+      };
+    }
+
 -- a phrase of a version, on so many cores, with a shift
 abbrev phraseOn : ℕ → ℕ → ℕ → List Bell → List Note → Phrase
 phraseOn v m t bells notes = record { version = v; cores = m; shift = t; bells = bells; notes = notes }
@@ -66,6 +86,15 @@ no-core v = omega (arith, v .fields .cores)
 pub nine-cores : Valid (phraseOn 1 9 0 two []) → ⊥
 nine-cores v = omega (arith, v .fields .cores)
 
+-- a shift in version 1, and one of 25
+pub first-shifted : Valid (phraseOn 1 1 4 two []) → ⊥
+unfolding layout isShift
+first-shifted v = absurd (let e : false ≡ true = v .fields .shift in let z : _≡_ {A = ℕ} 0 1 = cc in omega arith)
+
+pub far-shifted : Valid (phraseOn 2 1 25 two []) → ⊥
+unfolding layout isShift
+far-shifted v = absurd (let e : false ≡ true = v .fields .shift in let z : _≡_ {A = ℕ} 0 1 = cc in omega arith)
+
 -- no bell, and 97
 pub no-bell : Valid (phraseOn 1 1 0 [] []) → ⊥
 no-bell v = omega (arith, v .fields .bellCount)
@@ -83,11 +112,17 @@ pub one-key : Valid (phraseOn 1 1 0 (bell 60 2 2 2 1 ∷ bell 62 0 4 4 2 ∷ [])
 unfolding Each findFrom
 one-key v = absurd (let e : some 0 ≡ none = v .fields .bells .1 .0 .alone in let z : _≡_ {A = ℕ} 0 1 = cc in omega arith)
 
--- a note that no bell sounds for, one that lists itself, and one that lists five
+-- a note that no bell sounds for
 pub no-sound : Valid (phraseOn 1 1 0 two (note 62 0 0 6 [] ∷ [])) → ⊥
 unfolding Each findFrom
 no-sound v = absurd (let e : false ≡ true = v .fields .notes .0 .sounds in let z : _≡_ {A = ℕ} 0 1 = cc in omega arith)
 
+-- the key of a bell, which the shift moves away
+pub moved-away : Valid (phraseOn 2 1 252 two (note 60 0 5 7 [] ∷ [])) → ⊥
+unfolding Each findFrom
+moved-away v = absurd (let e : false ≡ true = v .fields .notes .0 .sounds in let z : _≡_ {A = ℕ} 0 1 = cc in omega arith)
+
+-- a note that lists itself, and one that lists five
 pub lists-itself : Valid (phraseOn 1 1 0 two (note 60 0 5 7 (0 ∷ []) ∷ [])) → ⊥
 unfolding Each rises
 lists-itself v = absurd (let e : false ≡ true = v .fields .notes .0 .rising in let z : _≡_ {A = ℕ} 0 1 = cc in omega arith)
