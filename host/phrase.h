@@ -58,7 +58,7 @@ enum phrase_number {
     PHRASE_SAME_KEY = 7,     /* an earlier bell sounds for the same key;             place: the bell's first byte */
     PHRASE_STROKES = 8,      /* over 64 strokes;                                     place: the byte that says so */
     PHRASE_NOTE_LENGTH = 9,  /* a note's length is not 13 to 17;                     place: the note's first byte */
-    PHRASE_NO_BELL = 10,     /* no bell sounds for the key plus the shift;           place: the note's first byte */
+    PHRASE_NO_BELL = 10,     /* no bell sounds for the key plus the shift;           place: the note's first byte. Tried after 11 */
     PHRASE_TIMES = 11,       /* ra is over rb, or rb or d is over 3600000;           place: the note's first byte */
     PHRASE_WAITS = 12,       /* waits do not rise, or are not below the note's own;  place: the note's first byte */
     PHRASE_TABLE_FULL = 13,  /* a level has more states than the table has room for; place: the level */
@@ -158,7 +158,7 @@ uint64_t phrase_read(const uint8_t *file, size_t file_len, struct phrase *phrase
  * Writes a phrase as a file of its version, 1 or 2.
  * Gives the file's length, which is below 4294967296, so that phrase_refusal of it is 0; the bytes of file past that length are untouched. Otherwise gives a
  * refusal's number times 4294967296 plus its place, and all of file is untouched: the first of 1, 4, 19, 5, of the bells' 6 and 7, of 8 and of the notes' 9,
- * 10, 11 and 12, in the order of the file, at the place where reading would find the field; then 16 at 0 where file_len is less than the file's length.
+ * 11, 10 and 12, in the order of the file, at the place where reading would find the field; then 16 at 0 where file_len is less than the file's length.
  * A version 1 file has no place for a shift, so one other than 0 is refused there, with 19 at 6.
  * A field that is too wide for its bytes is refused like one out of range, and never cut: 19 for a shift that is too wide, 6 for a rank or a transposition
  * above 255, 9 for more than four waits, 10 for a key above 255, whatever the shift. What was read from a file is written as that very file; what was written

@@ -345,6 +345,11 @@ edit_refused() {
   refuses "$1" '11, byte 393: note 23: the due time is out of range' "$etude" --due 3597441
   refuses "$1" '11, byte 37: note 1: the due time is out of range' "$f/shifted" --due -7
   refuses "$1" '11, byte 394: note 23: the due time is out of range' "$down" --due 3597441
+  # A due time and a key, both wrong: the time is named.
+  refuses "$1" '10, byte 22: note 0: no bell sounds for its key any more' "$p" --bell 0 --transpose 1 --due 3599993
+  refuses "$1" '11, byte 22: note 0: the due time is out of range' "$p" --bell 0 --transpose 1 --due 3599994
+  refuses "$1" '10, byte 37: note 1: no bell sounds for its key any more' "$f/shifted" --bell 1 --transpose 1 --due -6
+  refuses "$1" '11, byte 37: note 1: the due time is out of range' "$f/shifted" --bell 1 --transpose 1 --due -7
   rm "$out"
   runs "$1: editor, no new file" 1 '' "editor: $out: refused, number 11, byte 22: note 0: the due time is out of range\n" "${editor[@]}" "$p" "$out" --due -8
   [ ! -e "$out" ] || status=1

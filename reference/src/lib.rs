@@ -1,5 +1,5 @@
 //! The second checker of carillon phrases, and a second writer and player of them, made from the documents alone: document
-//! 01, of document 02 requests #101 to #104, and for #103 the paper, source document 004.
+//! 01, of document 02 requests #101 to #105, and for #103 the paper, source document 004.
 
 pub mod check;
 pub mod dispatch;
@@ -9,6 +9,7 @@ pub mod examples;
 #[cfg(feature = "linked")]
 pub mod foreign;
 pub mod layout;
+pub mod note_order;
 pub mod paper;
 pub mod playing;
 pub mod printed;

@@ -210,16 +210,17 @@ fn read_note(
     )?;
     let record = &bytes_at(file, first, 1 + length)?[1..];
 
+    // Request #105: times before the key, although they stand after it.
+    let call = Range::new(big_endian(&record[1..5]), big_endian(&record[5..9]));
+    let due = big_endian(&record[9..NOTE_FIELDS]);
+    let times_right = call.low <= call.high && call.high <= LATEST_TIME && due <= LATEST_TIME;
+    require(times_right, 11, first)?;
+
     // Bells sound for 12 to 119 only, so a sum below or above finds none.
     let key = i64::from(record[0]) + shift;
     let Some(bell) = bells.iter().position(|b| b.key == key) else {
         return Err(refusal(10, first));
     };
-
-    let call = Range::new(big_endian(&record[1..5]), big_endian(&record[5..9]));
-    let due = big_endian(&record[9..NOTE_FIELDS]);
-    let times_right = call.low <= call.high && call.high <= LATEST_TIME && due <= LATEST_TIME;
-    require(times_right, 11, first)?;
 
     let listed: Vec<usize> = record[NOTE_FIELDS..]
         .iter()

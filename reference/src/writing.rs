@@ -237,14 +237,15 @@ fn check_note(note: &EditedNote, number: u32, shift: i64, sounding: &Sounding) -
     if note.wait_count as usize > MOST_WAITS {
         return Err(9);
     }
+    // Request #105: times before the key.
+    let latest = note.rb.max(note.due);
+    if note.ra > note.rb || u64::from(latest) > LATEST_TIME {
+        return Err(11);
+    }
     // A key too wide for a byte is beyond all bells, whatever the shift; the sum does not wrap.
     let key = usize::try_from(i64::from(note.key) + shift).ok();
     if key.and_then(|key| sounding.get(key)) != Some(&true) {
         return Err(10);
-    }
-    let latest = note.rb.max(note.due);
-    if note.ra > note.rb || u64::from(latest) > LATEST_TIME {
-        return Err(11);
     }
     let waits = note.waits();
     let rising = waits.is_sorted_by(|a, b| a < b);

@@ -13,6 +13,10 @@ mod settings;
 mod shifted_kinds;
 #[path = "common/tally.rs"]
 mod tally;
+#[path = "common/tried_notes.rs"]
+mod tried_notes;
+#[path = "common/was_10.rs"]
+mod was_10;
 
 use std::process::ExitCode;
 
@@ -21,6 +25,7 @@ use reference::check::{Check, HOST_WORDS};
 use reference::draft::{Draft, DraftBell, DraftNote};
 use reference::examples::*;
 use reference::foreign;
+use reference::note_order::{ENOUGH_WORDS, OF_FILES, file_was_10, tried_notes};
 use reference::paper::steps;
 use reference::random::{self, Case, Generator, at_zero_case, case, shifted_case, widest_case};
 use reference::reading::read;
@@ -29,9 +34,11 @@ use reference::walk::{capacity, walk_observed, words_per_state};
 use settings::{Wanted, in_hexadecimal, named};
 use shifted_kinds::ShiftedKinds;
 use tally::Tally;
+use tried_notes::demand_exactly;
+use was_10::WasTen;
 
-/// So many cases have to meet latest starts below zero and all kinds of version 2 often; fewer are for a look at one
-/// difference.
+/// So many cases have to meet latest starts below zero, all kinds of version 2 and what was 10 often; fewer are for a
+/// look at one difference.
 const ENOUGH: u64 = 5_000;
 
 /// What was compared, by the answers in lent tables.
@@ -40,6 +47,7 @@ struct Kinds {
     answers: Tally,
     /// Of phrases with a candidate whose latest start is below zero.
     below_zero: Tally,
+    was_10: WasTen,
     reports: Reports,
 }
 
@@ -63,6 +71,7 @@ impl Kinds {
         (self.answers)
             .print("random phrases that agree, by their answer in tables of many lengths");
         (self.below_zero).print("those of them in which a latest start is below zero");
+        self.was_10.print("those of them");
         self.reports.print();
     }
 
@@ -207,6 +216,7 @@ fn compare_random_phrases() -> Result<(), String> {
     for (number, case) in cases.chain(widest).chain(at_zero) {
         let answer = compare_drawn(&wanted, number, &case, &mut kinds.reports)?;
         kinds.answers.add(answer);
+        kinds.was_10.add(file_was_10(&case.file));
         if has_latest_start_below_zero(&case.file, case.table_words) {
             kinds.below_zero.add(answer);
         }
@@ -215,27 +225,32 @@ fn compare_random_phrases() -> Result<(), String> {
     if wanted.count < ENOUGH {
         return Ok(());
     }
-    kinds.demand_below_zero(wanted.count)
+    kinds.demand_below_zero(wanted.count)?;
+    kinds.was_10.demand(wanted.count)
 }
 
 fn compare_random_phrases_of_version_2() -> Result<(), String> {
     let wanted = Wanted::new()?;
     let numbers = wanted.numbers(random::CASES_PER_SHIFTED);
     let (mut kinds, mut reports) = (ShiftedKinds::new(), Reports::default());
+    let mut was_10 = WasTen::default();
     for number in numbers.clone() {
         let case = shifted_case(wanted.seed, number);
         let answer = compare_drawn(&wanted, number, &case, &mut reports)
             .map_err(|difference| format!("version 2, {difference}"))?;
         kinds.add(&case.file, answer);
+        was_10.add(file_was_10(&case.file));
     }
     (kinds.answers).print("random phrases of version 2 that agree, by their answer in such tables");
     kinds.print();
+    was_10.print("those of them");
     reports.print();
     let cases = numbers.end - numbers.start;
     if cases < ENOUGH {
         return Ok(());
     }
-    kinds.demand_all(cases)
+    kinds.demand_all(cases)?;
+    was_10.demand(cases)
 }
 
 /// Gives the answer in the lent table.
@@ -315,6 +330,17 @@ fn compare_keys_and_shifts() -> Result<(), String> {
     Ok(())
 }
 
+/// Every note of a phrase with any of rules 10, 11 and 12 broken, each in several ways.
+fn compare_tried_notes() -> Result<(), String> {
+    let mut answers = Tally::default();
+    let files = tried_notes().into_iter().filter_map(|tried| tried.file());
+    for (seed, file) in (0..).zip(files) {
+        answers.add(compare_once(&file, ENOUGH_WORDS, seed)?);
+    }
+    let what = "files with tried notes that agree";
+    demand_exactly(what, &answers.counts, OF_FILES)
+}
+
 fn compare_files(files: &[Vec<u8>]) -> Result<(), String> {
     for file in files {
         for table_words in [0, 7, 8, 31, 32, HOST_WORDS] {
@@ -326,7 +352,8 @@ fn compare_files(files: &[Vec<u8>]) -> Result<(), String> {
     Ok(())
 }
 
-fn compare_once(file: &[u8], table_words: usize, seed: u64) -> Result<(), String> {
+/// Gives the answer in the lent table.
+fn compare_once(file: &[u8], table_words: usize, seed: u64) -> Result<u64, String> {
     let mut trial = Trial {
         file,
         table_words,
@@ -335,8 +362,7 @@ fn compare_once(file: &[u8], table_words: usize, seed: u64) -> Result<(), String
     trial.run(&mut Reports::default()).map_err(|difference| {
         let file = in_hexadecimal(file);
         format!("{difference}\ntable {table_words} words, file {file}")
-    })?;
-    Ok(())
+    })
 }
 
 /// Levels of thousands of states: strokes that may go in any order, so that every set of them is one.
@@ -373,6 +399,7 @@ fn main() -> ExitCode {
         .and_then(|()| compare_random_phrases())
         .and_then(|()| compare_examples_of_version_2())
         .and_then(|()| compare_keys_and_shifts())
+        .and_then(|()| compare_tried_notes())
         .and_then(|()| compare_random_phrases_of_version_2())
     {
         Ok(()) => ExitCode::SUCCESS,

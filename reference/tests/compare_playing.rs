@@ -17,6 +17,8 @@ mod settings;
 mod shifted_kinds;
 #[path = "common/tally.rs"]
 mod tally;
+#[path = "common/was_10.rs"]
+mod was_10;
 
 use std::process::ExitCode;
 
@@ -29,6 +31,7 @@ use reference::draft::playing_bytes;
 use reference::events::by_events;
 use reference::examples::*;
 use reference::foreign;
+use reference::note_order::file_was_10;
 use reference::playing::{Played, literally, play_by, read_playing};
 use reference::random::{self, Generator, PlayedCase, TINY, played_case, shifted_played_case};
 use reference::reading::{MOST_STROKES, Phrase, Refusal, read};
@@ -128,6 +131,7 @@ fn compare_case(
     let found = named("phrase_play", || compare_play(case, &expected, random))?;
     let answer = host_number(&expected);
     kinds.answers.add(answer);
+    kinds.was_10.add(file_was_10(&case.file));
     let Ok(phrase) = read(&case.file) else {
         return Ok(answer);
     };

@@ -20,6 +20,10 @@ mod shifted_writing;
 mod stored;
 #[path = "common/tally.rs"]
 mod tally;
+#[path = "common/tried_notes.rs"]
+mod tried_notes;
+#[path = "common/was_10.rs"]
+mod was_10;
 
 use std::array;
 use std::process::ExitCode;
@@ -29,6 +33,7 @@ use lent::Lent;
 use reference::draft::Draft;
 use reference::examples::{P, P_SHIFTED, outermost_bells, p_shifted_with};
 use reference::foreign::{self, HostPhrase};
+use reference::note_order::{OF_FILES, OF_PHRASES, file_was_10, phrase_was_10, tried_notes};
 use reference::random::{
     self, EditedCase, Generator, case, edited_case, shifted_case, shifted_edited_case,
 };
@@ -39,6 +44,8 @@ use shifted_kinds::ShiftedKinds;
 use shifted_writing::ShiftedWriting;
 use stored::stored_files;
 use tally::Tally;
+use tried_notes::demand_exactly;
+use was_10::WasTen;
 
 /// So many phrases have to meet every kind; fewer are for a look at one difference.
 const ENOUGH: u64 = 5_000;
@@ -53,7 +60,9 @@ struct Kinds {
     fitting: Tally,
     /// Refused phrases that would be sound if their fields were cut to their bytes.
     only_too_wide: Tally,
+    written_was_10: WasTen,
     read: Tally,
+    read_was_10: WasTen,
     rooms: [u64; ROOMS.len()],
     longest: u64,
 }
@@ -82,6 +91,7 @@ fn room_kind(room: usize, length: usize) -> usize {
 impl Kinds {
     fn add(&mut self, case: &EditedCase, expected: &Result<Vec<u8>, Refusal>) {
         self.written.add(host_number(expected));
+        self.written_was_10.add(phrase_was_10(&case.phrase));
         if let Ok(length) = file_length(&case.phrase) {
             self.rooms[room_kind(case.room, length)] += 1;
             let longest = LONGEST[usize::from(case.phrase.version == 2)];
@@ -93,16 +103,19 @@ impl Kinds {
         (self.written).print("random phrases to write that agree, by their answer");
         (self.fitting).print("of these, refused as their files are");
         (self.only_too_wide).print("of these, refused only because a field is too wide");
+        self.written_was_10.print("of these");
         let rooms: Vec<String> = (ROOMS.iter().zip(self.rooms))
             .map(|(name, count)| format!("{name} {count}"))
             .collect();
         println!("buffers for sound phrases: {}", rooms.join(", "));
         println!("written with all bells, notes and waits: {}", self.longest);
         (self.read).print("random files to read that agree, by their answer");
+        self.read_was_10.print("of these");
     }
 
-    /// Names a kind that was never met; these numbers are met in the version beside those of every version.
-    fn demand_all(&self, beside: &[usize]) -> Result<(), String> {
+    /// Names a kind that was never met, or too rarely in so many cases; these numbers are met in the version beside
+    /// those of every version.
+    fn demand_all(&self, cases: u64, beside: &[usize]) -> Result<(), String> {
         let refused = [1, 4, 5, 6, 7, 8, 9, 10, 11, 12];
         // Times have all bits of their fields, and two bells that sound for one key fit their bytes.
         let too_wide = [1, 4, 5, 6, 8, 9, 10, 12];
@@ -117,6 +130,8 @@ impl Kinds {
             demand(what, tally, numbers)?;
             demand(what, tally, beside)?;
         }
+        self.written_was_10.demand(cases)?;
+        self.read_was_10.demand(cases)?;
         match self.rooms.iter().position(|&count| count == 0) {
             Some(kind) => Err(format!("no buffer was {}", ROOMS[kind])),
             None if self.longest == 0 => Err("no phrase was the longest".to_string()),
@@ -317,6 +332,7 @@ fn compare_drawn(
     compare_file(file, random)
         .map_err(|difference| format!("{here}: {difference}\nfile {}", in_hexadecimal(file)))?;
     kinds.read.add(read_number(file));
+    kinds.read_was_10.add(file_was_10(file));
     Ok(())
 }
 
@@ -334,7 +350,7 @@ fn compare_random() -> Result<(), String> {
     if wanted.count < ENOUGH {
         return Ok(());
     }
-    kinds.demand_all(&[])
+    kinds.demand_all(wanted.count, &[])
 }
 
 fn compare_random_of_version_2() -> Result<(), String> {
@@ -359,7 +375,7 @@ fn compare_random_of_version_2() -> Result<(), String> {
     if cases < ENOUGH {
         return Ok(());
     }
-    kinds.demand_all(&[19])?;
+    kinds.demand_all(cases, &[19])?;
     written.demand_all(cases)?;
     read.demand_all(cases)
 }
@@ -369,25 +385,30 @@ fn words() -> impl Iterator<Item = u32> {
     (0..=512).chain((0..=300).map(|less| u32::MAX - less))
 }
 
-/// Writes a phrase of an example after a change; gives whether it is sound.
-fn compare_changed(phrase: &EditedPhrase, random: &mut Generator) -> Result<bool, String> {
-    const ROOM: usize = 60;
+/// Writes a phrase of an example after a change; gives the answer.
+fn compare_changed(phrase: &EditedPhrase, random: &mut Generator) -> Result<u64, String> {
+    const ROOM: usize = 90;
     let expected = write(phrase, ROOM);
     let host = HostPhrase::of(phrase, || derived_or_spare(random));
     compare_write(&host, ROOM, &expected, random)
         .map_err(|difference| format!("{difference}\nversion {}, {phrase:?}", phrase.version))?;
-    Ok(expected.is_ok())
+    Ok(host_number(&expected))
+}
+
+fn compare_example(file: &[u8], random: &mut Generator) -> Result<(), String> {
+    compare_file(file, random)
+        .map(drop)
+        .map_err(|difference| format!("file {}: {difference}", in_hexadecimal(file)))
 }
 
 /// Every key with every shift in range or just beyond, read; and, keys that are too wide as well, written.
 fn compare_keys_and_shifts() -> Result<(), String> {
     let mut random = Generator::new(random::SEED);
-    let (mut are_read, mut are_written) = (0, 0);
+    let (mut are_read, mut written) = (0, Tally::default());
     for shift in -25..=25 {
         for key in 0..=255 {
             let file = outermost_bells(key, shift);
-            compare_file(&file, &mut random)
-                .map_err(|difference| format!("file {}: {difference}", in_hexadecimal(&file)))?;
+            compare_example(&file, &mut random)?;
             are_read += u64::from(read(&file).is_ok());
         }
     }
@@ -396,9 +417,10 @@ fn compare_keys_and_shifts() -> Result<(), String> {
         phrase.shift = u32::from(shift as u8);
         for key in words() {
             phrase.notes[0].key = key;
-            are_written += u64::from(compare_changed(&phrase, &mut random)?);
+            written.add(compare_changed(&phrase, &mut random)?);
         }
     }
+    let are_written = written.counts[0];
     println!("all keys with all shifts agree: {are_read} find a bell, {are_written} are written");
     // The upper bell with each of 49 shifts, the lower one with none above 12.
     let all_met = [are_read, are_written] == [49 + 37; 2];
@@ -412,23 +434,42 @@ fn compare_shifts() -> Result<(), String> {
         compare_file(&p_shifted_with(6, shift), &mut random)
             .map_err(|difference| format!("shift {shift}: {difference}"))?;
     }
-    let mut are_written = 0;
+    let mut written = Tally::default();
     for mut phrase in [edited(&P), edited(&P_SHIFTED)] {
         // Without notes, any shift in range is sound.
         for note_count in [0, 2] {
             phrase.note_count = note_count;
             for shift in words() {
                 phrase.shift = shift;
-                are_written += u64::from(compare_changed(&phrase, &mut random)?);
+                written.add(compare_changed(&phrase, &mut random)?);
             }
         }
     }
+    let are_written = written.counts[0];
     println!("all shifts agree, {are_written} are written");
     // In version 1 only 0, with notes and without; in version 2 all without notes, and the one that they are written for.
     same(
         are_written == 2 + 49 + 1,
         "other shifts than there should be are sound",
     )
+}
+
+/// Every note of a phrase with any of rules 10, 11 and 12 broken, each in several ways: written, and read if all fits
+/// its bytes.
+fn compare_tried_notes() -> Result<(), String> {
+    let mut random = Generator::new(random::SEED);
+    let (mut written, mut are_read) = (Tally::default(), Tally::default());
+    for tried in tried_notes() {
+        written.add(compare_changed(&tried.phrase(), &mut random)?);
+        if let Some(file) = tried.file() {
+            compare_example(&file, &mut random)?;
+            are_read.add(read_number(&file));
+        }
+    }
+    let what = "phrases with tried notes to write that agree";
+    demand_exactly(what, &written.counts, OF_PHRASES)?;
+    let what = "files with tried notes to read that agree";
+    demand_exactly(what, &are_read.counts, OF_FILES)
 }
 
 fn edited(example: &[u8]) -> EditedPhrase {
@@ -457,6 +498,7 @@ fn main() -> ExitCode {
         .and_then(|()| compare_stored())
         .and_then(|()| compare_keys_and_shifts())
         .and_then(|()| compare_shifts())
+        .and_then(|()| compare_tried_notes())
         .and_then(|()| compare_random_of_version_2())
     {
         Ok(()) => ExitCode::SUCCESS,

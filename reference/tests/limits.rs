@@ -194,8 +194,10 @@ fn the_first_rule_in_order_answers() {
     assert_eq!(answer(|d| (d.drivers, d.bell_count) = (0, 0)), Some((4, 5)));
     let note =
         |key, ra, waits: Vec<u8>| answer(|d| d.notes[4] = DraftNote::new(key, ra, 5, 9, waits));
-    assert_eq!(note(118, 6, vec![4]), Some((10, NOTE_4)));
+    // Times, then the key, then what is listed.
+    assert_eq!(note(118, 6, vec![4]), Some((11, NOTE_4)));
     assert_eq!(note(119, 6, vec![4]), Some((11, NOTE_4)));
+    assert_eq!(note(118, 5, vec![4]), Some((10, NOTE_4)));
     assert_eq!(note(119, 5, vec![4]), Some((12, NOTE_4)));
 
     // A wrong length is 9 although the record also passes the end.
@@ -317,7 +319,7 @@ fn the_first_rule_in_order_answers_in_version_2() {
     assert_eq!(answer_2(|d| d.bell_count = 0), Some((5, 7)));
     assert_eq!(answer_2(|d| d.bell_count = 97), Some((5, 7)));
 
-    // The records of version 2 have the order that they had, one byte further on.
+    // The records of version 2 have the order of version 1, one byte further on.
     let (bell_2, note_4) = (BELL_2 + 1, NOTE_4 + 1);
     assert_eq!(answer_2(|d| d.bells[2].ca = 0), Some((6, bell_2)));
     assert_eq!(answer_2(|d| d.bells[2].written = 12), Some((7, bell_2)));
@@ -325,8 +327,9 @@ fn the_first_rule_in_order_answers_in_version_2() {
     assert_eq!(answer_2(|d| d.notes[4].length = 18), Some((9, note_4)));
     let note =
         |key, ra, waits: Vec<u8>| answer_2(|d| d.notes[4] = DraftNote::new(key, ra, 5, 9, waits));
-    assert_eq!(note(118, 6, vec![4]), Some((10, note_4)));
+    assert_eq!(note(118, 6, vec![4]), Some((11, note_4)));
     assert_eq!(note(119, 6, vec![4]), Some((11, note_4)));
+    assert_eq!(note(118, 5, vec![4]), Some((10, note_4)));
     assert_eq!(note(119, 5, vec![4]), Some((12, note_4)));
     assert_eq!(answer_2(|d| d.rest = vec![0]), Some((3, note_4 + 14)));
 }

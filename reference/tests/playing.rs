@@ -7,6 +7,8 @@ mod counts;
 mod shifted_kinds;
 #[path = "common/tally.rs"]
 mod tally;
+#[path = "common/was_10.rs"]
+mod was_10;
 
 use std::array;
 
@@ -15,6 +17,7 @@ use reference::dispatch::Scenario;
 use reference::draft::{Draft, DraftBell, DraftNote, correct_count, playing_bytes};
 use reference::events::by_events;
 use reference::examples::*;
+use reference::note_order::file_was_10;
 use reference::playing::{Played, literally, play, play_by, read_playing};
 use reference::random::{
     CASES, CASES_PER_SHIFTED, Generator, SEED, longest, played_case, scenario, shifted_played_case,
@@ -22,6 +25,7 @@ use reference::random::{
 use reference::reading::{Refusal, read};
 use shifted_kinds::ShiftedKinds;
 use tally::Tally;
+use was_10::WasTen;
 
 /// P with stroke 0 called at 5: the version, a count of 12, then two strokes.
 const P_PLAYING: [u8; 17] = [
@@ -471,36 +475,42 @@ fn a_long_phrase_of_all_bells_and_waits_is_the_literal_run() {
 /// Holds the draw to what it has to cover.
 #[test]
 fn each_kind_of_answer_is_frequent() {
-    let mut kinds = Tally::default();
+    let (mut kinds, mut was_10) = (Tally::default(), WasTen::default());
     for number in 0..CASES {
         let case = played_case(SEED, number);
+        was_10.add(file_was_10(&case.file));
         let answer = play_by(&case.file, &case.playing, by_events);
         kinds.add(answer.map_or_else(Refusal::host_number, |_| 0));
     }
     kinds.print("playings, by their answer");
+    was_10.print("of these");
     for kind in (0..=12).chain([17, 18]) {
         assert!(kinds.counts[kind] * 400 >= CASES, "kind {kind} is rare");
     }
     for kind in [0, 17, 18] {
         assert!(kinds.counts[kind] * 10 >= CASES, "kind {kind} is rare");
     }
+    was_10.demand(CASES).unwrap();
 }
 
 #[test]
 fn each_kind_of_answer_is_frequent_in_version_2() {
     let cases = CASES / CASES_PER_SHIFTED;
-    let mut kinds = ShiftedKinds::new();
+    let (mut kinds, mut was_10) = (ShiftedKinds::new(), WasTen::default());
     for number in 0..cases {
         let case = shifted_played_case(SEED, number);
+        was_10.add(file_was_10(&case.file));
         let answer = play_by(&case.file, &case.playing, by_events);
         let answer = answer.map_or_else(Refusal::host_number, |_| 0);
         kinds.add(&case.file, answer);
     }
     (kinds.answers).print("playings of version 2, by their answer");
     kinds.print();
+    was_10.print("of these");
     for kind in (0..=12).chain([17, 18, 19]) {
         let often = kinds.answers.counts[kind] * 400 >= cases;
         assert!(often, "kind {kind} is rare");
     }
     kinds.demand_all(cases).unwrap();
+    was_10.demand(cases).unwrap();
 }

@@ -7,11 +7,14 @@ mod counts;
 mod shifted_kinds;
 #[path = "common/tally.rs"]
 mod tally;
+#[path = "common/was_10.rs"]
+mod was_10;
 
 use std::sync::LazyLock;
 
 use reference::check::{Check, HOST_WORDS, check, check_phrase};
 use reference::draft::Draft;
+use reference::note_order::file_was_10;
 use reference::random::{
     CASES, CASES_PER_SHIFTED, CASES_PER_WIDEST, Case, Generator, SEED, TINY, case, damaged, draft,
     shifted_case, widest_case,
@@ -20,6 +23,7 @@ use reference::reading::{Phrase, Refusal, read};
 use reference::walk::{Outcome, Walk, capacity, walk};
 use shifted_kinds::ShiftedKinds;
 use tally::Tally;
+use was_10::WasTen;
 
 struct Seen {
     file: Vec<u8>,
@@ -68,7 +72,9 @@ fn is_accepted(walk: &Walk) -> bool {
 fn each_kind_of_answer_is_frequent() {
     let mut lent = Tally::default();
     let mut host = Tally::default();
+    let mut was_10 = WasTen::default();
     for seen in STREAM.iter() {
+        was_10.add(file_was_10(&seen.file));
         let check = |walk: fn(&Walked) -> &Walk| match &seen.read {
             Ok(walked) => walk(walked).clone().into(),
             Err(refusal) => Check::bare((*refusal).into()),
@@ -78,12 +84,14 @@ fn each_kind_of_answer_is_frequent() {
     }
     lent.print("tables of many lengths");
     host.print("the host's table");
+    was_10.print("of these");
     for kind in 0..=14 {
         assert!(lent.counts[kind] * 200 >= CASES, "kind {kind} is rare");
     }
     for kind in [0, 13, 14] {
         assert!(host.counts[kind] * 50 >= CASES, "kind {kind} is rare");
     }
+    was_10.demand(CASES).unwrap();
 }
 
 #[test]
@@ -92,22 +100,25 @@ fn each_kind_of_answer_shift_and_key_is_frequent_in_version_2() {
     const LONGEST: usize = 1_823;
 
     let cases = CASES / CASES_PER_SHIFTED;
-    let mut kinds = ShiftedKinds::new();
+    let (mut kinds, mut was_10) = (ShiftedKinds::new(), WasTen::default());
     let mut longest = 0;
     for number in 0..cases {
         let Case { file, table_words } = shifted_case(SEED, number);
         let answer = check(&file, table_words).host_number();
         kinds.add(&file, answer);
+        was_10.add(file_was_10(&file));
         longest += u64::from(answer == 0 && file.len() == LONGEST);
     }
     (kinds.answers).print("version 2 in tables of many lengths");
     kinds.print();
+    was_10.print("of these");
     println!("{longest} of the longest files are accepted");
     for kind in (0..=14).chain([19]) {
         let often = kinds.answers.counts[kind] * 400 >= cases;
         assert!(often, "kind {kind} is rare");
     }
     kinds.demand_all(cases).unwrap();
+    was_10.demand(cases).unwrap();
     assert!(longest >= 10);
 }
 

@@ -8,9 +8,12 @@ mod shifted_writing;
 mod stored;
 #[path = "common/tally.rs"]
 mod tally;
+#[path = "common/was_10.rs"]
+mod was_10;
 
 use reference::draft::Draft;
 use reference::examples::*;
+use reference::note_order::phrase_was_10;
 use reference::random::{
     CASES, CASES_PER_SHIFTED, EditedCase, Generator, SEED, edited_case, longest,
     shifted_edited_case,
@@ -20,6 +23,7 @@ use reference::writing::{EditedBell, EditedNote, EditedPhrase, write, write_into
 use shifted_writing::ShiftedWriting;
 use stored::stored_files;
 use tally::Tally;
+use was_10::WasTen;
 
 /// N, T as a byte, ca, cb, p.
 fn bell([written, transposition, ca, cb, rank]: [u32; 5]) -> EditedBell {
@@ -422,8 +426,8 @@ fn the_first_rule_in_order_answers() {
     let doubled = |p: &mut EditedPhrase| p.bells[1].written = 12;
     let note_count = |p: &mut EditedPhrase| p.note_count = 256;
     let waits_0 = |p: &mut EditedPhrase| p.notes[0].wait_count = 256;
-    let key_0 = |p: &mut EditedPhrase| p.notes[0].key = 256 + 36;
     let times_0 = |p: &mut EditedPhrase| p.notes[0].due = u32::MAX;
+    let key_0 = |p: &mut EditedPhrase| p.notes[0].key = 256 + 36;
     let listed_0 = |p: &mut EditedPhrase| p.notes[0].wait_count = 1;
     let waits_1 = |p: &mut EditedPhrase| p.notes[1].wait_count = 5;
     let listed_1 = |p: &mut EditedPhrase| p.notes[1].waits[0] = 256;
@@ -438,8 +442,8 @@ fn the_first_rule_in_order_answers() {
         (doubled, 7, 14),
         (note_count, 8, 21),
         (waits_0, 9, 22),
-        (key_0, 10, 22),
         (times_0, 11, 22),
+        (key_0, 10, 22),
         (listed_0, 12, 22),
         (waits_1, 9, 36),
         (listed_1, 12, 36),
@@ -609,6 +613,7 @@ struct Seen {
     answers: Tally,
     fitting: Tally,
     only_too_wide: Tally,
+    was_10: WasTen,
     longest: u64,
 }
 
@@ -638,6 +643,7 @@ impl Seen {
                 }
             }
         }
+        self.was_10.add(phrase_was_10(&case.phrase));
         let answer = write(&case.phrase, case.room);
         (self.answers).add(answer.map_or_else(Refusal::host_number, |_| 0));
     }
@@ -647,6 +653,7 @@ impl Seen {
         (self.answers).print("phrases, by their answer in buffers of many lengths");
         self.fitting.print("refused as their files are");
         (self.only_too_wide).print("refused, and sound if fields were cut to their bytes");
+        self.was_10.print("phrases");
         println!("{} of the longest files", self.longest);
         for (what, tally, numbers, of) in [
             (
@@ -673,6 +680,7 @@ impl Seen {
                 assert!(often, "{what}: {number} is rare");
             }
         }
+        self.was_10.demand(cases).unwrap();
         assert!(self.longest * 100 >= cases);
     }
 }

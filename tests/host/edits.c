@@ -455,7 +455,7 @@ static const struct change {
     {{TO(notes[5].waits[1], 5)}, 12, 109},
     {{TO(notes[5].waits[1], 3)}, 0, Q_SIZE},
 
-    /* Two that are wrong: the file's order, and within a record 6, 7, and 9, 10, 11, 12. */
+    /* Two that are wrong: the file's order, and within a record 6, 7, and 9, 11, 10, 12. */
     {{TO(version, 3), TO(drivers, 9), TO(bell_count, 0)}, 1, 0},
     {{TO(version, 3), TO(shift, 1)}, 1, 0},
     {{TO(drivers, 9), TO(bell_count, 0)}, 4, 5},
@@ -475,10 +475,27 @@ static const struct change {
     {{TO(notes[1].due, ALL), TO(notes[2].key, 0)}, 11, 43},
     {{TO(notes[3].wait_count, 5), TO(notes[3].key, 0)}, 9, 74},
     {{TO(notes[3].wait_count, 5), TO(notes[3].due, ALL)}, 9, 74},
-    {{TO(notes[3].key, 0), TO(notes[3].due, ALL)}, 10, 74},
+    {{TO(notes[3].key, 0), TO(notes[3].due, ALL)}, 11, 74},
     {{TO(notes[3].key, 0), TO(notes[3].waits[0], 2)}, 10, 74},
     {{TO(notes[3].latest_call, ALL), TO(notes[3].waits[0], 2)}, 11, 74},
-    {{TO(notes[3].key, 0), TO(notes[3].due, ALL), TO(notes[3].waits[0], 2)}, 10, 74},
+    {{TO(notes[3].key, 0), TO(notes[3].due, ALL), TO(notes[3].waits[0], 2)}, 11, 74},
+
+    /* The first note and the last: times, then the key, then the waits. */
+    {{TO(notes[0].key, 61), TO(notes[0].earliest_call, 6)}, 11, 29},
+    {{TO(notes[0].earliest_call, 6), TO(notes[0].wait_count, 1)}, 11, 29},
+    {{TO(notes[0].key, 61), TO(notes[0].wait_count, 1)}, 10, 29},
+    {{TO(notes[0].key, 61), TO(notes[0].earliest_call, 6), TO(notes[0].wait_count, 1)}, 11, 29},
+    {{TO(notes[0].key, 256 + 60), TO(notes[0].latest_call, ALL)}, 11, 29},
+    {{TO(notes[5].key, ALL), TO(notes[5].earliest_call, 6)}, 11, 109},
+    {{TO(notes[5].key, 61), TO(notes[5].latest_call, 3600001)}, 11, 109},
+    {{TO(notes[5].key, 61), TO(notes[5].due, 3600001)}, 11, 109},
+    {{TO(notes[5].due, 3600001), TO(notes[5].waits[1], 5)}, 11, 109},
+    {{TO(notes[5].key, 61), TO(notes[5].waits[1], 5)}, 10, 109},
+    {{TO(notes[5].key, 61), TO(notes[5].due, 3600001), TO(notes[5].waits[1], 5)}, 11, 109},
+
+    /* What an earlier note breaks comes first. */
+    {{TO(notes[0].wait_count, 1), TO(notes[5].due, ALL)}, 12, 29},
+    {{TO(notes[0].key, 61), TO(notes[1].due, ALL)}, 10, 29},
 
     /* An earlier note with other waits moves the places of the later ones. */
     {{TO(notes[4].wait_count, 1), TO(notes[5].key, 0)}, 10, 106},
@@ -559,7 +576,15 @@ static const struct change changes_of_r[] = {
     {{TO(shift, 25), TO(bells[0].key, 0)}, 19, 6},
     {{TO(shift, 256), TO(note_count, 65), TO(notes[0].key, 0)}, 19, 6},
     {{TO(bell_count, 97), TO(notes[0].key, 0)}, 5, 7},
-    {{TO(notes[1].key, 0), TO(notes[1].due, ALL)}, 10, 44},
+    {{TO(notes[1].key, 0), TO(notes[1].due, ALL)}, 11, 44},
+    {{TO(notes[0].key, 64), TO(notes[0].earliest_call, 2)}, 11, 30}, /* the key is shifted away */
+    {{TO(notes[0].key, 64), TO(notes[0].wait_count, 1)}, 10, 30},
+    {{TO(notes[0].earliest_call, 2), TO(notes[0].wait_count, 1)}, 11, 30},
+    {{TO(notes[0].key, 64), TO(notes[0].earliest_call, 2), TO(notes[0].wait_count, 1)}, 11, 30},
+    {{TO(notes[3].key, 64), TO(notes[3].due, ALL)}, 11, 73},
+    {{TO(notes[3].key, 64), TO(notes[3].waits[1], 3)}, 10, 73},
+    {{TO(notes[3].due, ALL), TO(notes[3].waits[1], 3)}, 11, 73},
+    {{TO(notes[3].key, 64), TO(notes[3].due, ALL), TO(notes[3].waits[1], 3)}, 11, 73},
     {{TO(notes[2].wait_count, 0), TO(notes[3].key, 0)}, 10, 72},
 };
 

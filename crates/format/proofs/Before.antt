@@ -1,4 +1,4 @@
--- The reading as it was before version 2: a file of any version but 2 has the answer that it had, and so have its jobs and its keys. Assumes nothing.
+-- The reading as it was before version 2: but for the order of a note's rules, a file of any version but 2 has the answer that it had; its jobs and its keys are the same. Assumes nothing.
 use Prim.Native.Nat.{ℕ, zero, suc, _+_, _-_, _*_, _<_}
 use mathlib.Core.Path.{_≡_, refl, sym, ap, _∙_}
 use mathlib.Core.Bool.{Bool, true, false, _&&_, _||_}
@@ -14,10 +14,13 @@ use Rattle.format.specs.Bytes.{number, within}
 use Rattle.format.specs.Layout.{Layout, first, versions, isVersion, layout, isNoteLength}
 use Rattle.format.specs.Outcome.{Outcome, ok, refused, _>>=_, _>>_, require}
 use Rattle.format.specs.Phrase.{Bell, Note, Phrase, transposed, findSounding, isSome}
-use Rattle.format.specs.Rules.{areTimes, rises, isShift, noteRules}
-use Rattle.format.specs.Reading.{noteIn, noteRecord, bellsFrom, notesFrom, bellsIn, notesIn, readingBy, reading}
+use Rattle.format.specs.Rules.{areTimes, rises, isShift}
+use Rattle.format.specs.Reading.{noteIn, bellsFrom, bellsIn, reading}
 use Rattle.format.specs.Jobs.{noBell, note, shiftedKey, orFirst, jobOn, jobOf, jobsOf}
 use Rattle.format.proofs.Passed.{required, bound, same-then, same-require, passed}
+use Rattle.format.proofs.AnyRules.{noteRecordWith, notesFromWith, notesInWith, readingByWith, readingWith}
+use Rattle.format.proofs.Retold.{inFile, retold}
+use Rattle.format.proofs.Order.{keyFirst, readingBefore, timely, strikes, from-before, from-now}
 
 -- ---- the reading as it was, sentence by sentence; the records of bells and the fields of notes are those of version 1 now
 
@@ -79,24 +82,24 @@ before s = do
 pub unmoved : (key : ℕ) → transposed key 0 ≡ key
 unmoved key = add-zero key
 
-note-rules : (bells : List Bell) (own at : ℕ) (n : Note) → noteRules 0 bells own at n ≡ noteRulesBefore bells own at n
-unfolding noteRules noteRulesBefore
+note-rules : (bells : List Bell) (own at : ℕ) (n : Note) → keyFirst 0 bells own at n ≡ noteRulesBefore bells own at n
+unfolding keyFirst noteRulesBefore
 note-rules bells own at n = rw unmoved refl
 
-note-record : (bells : List Bell) (own at : ℕ) (p : List ℕ) → noteRecord first 0 bells own at p ≡ noteRecordBefore bells own at p
-unfolding noteRecord noteRecordBefore
+note-record : (bells : List Bell) (own at : ℕ) (p : List ℕ) → noteRecordWith keyFirst first 0 bells own at p ≡ noteRecordBefore bells own at p
+unfolding noteRecordWith noteRecordBefore
 note-record bells own at p = rw note-rules refl
 
-notes-from : (s : List ℕ) (bells : List Bell) (n at : ℕ) (done : List Note) → notesFrom first s 0 bells n at done ≡ notesFromBefore s bells n at done
-unfolding notesFrom notesFromBefore
+notes-from : (s : List ℕ) (bells : List Bell) (n at : ℕ) (done : List Note) → notesFromWith keyFirst first s 0 bells n at done ≡ notesFromBefore s bells n at done
+unfolding notesFromWith notesFromBefore
 notes-from s bells zero at done = refl
 notes-from s bells (suc n) at done =
     let to : ℕ = at + (1 + number 1 at s) in
-    ap (λ (o : Outcome Note). _>>=_ o (λ a. notesFrom first s 0 bells n to (done ++ a ∷ []))) (note-record bells (length done) at (drop at s))
+    ap (λ (o : Outcome Note). _>>=_ o (λ a. notesFromWith keyFirst first s 0 bells n to (done ++ a ∷ []))) (note-record bells (length done) at (drop at s))
     ∙ same-then (noteRecordBefore bells (length done) at (drop at s)) _ _ (λ a. notes-from s bells n to (done ++ a ∷ []))
 
-notes-in : (s : List ℕ) (bells : List Bell) (at : ℕ) → notesIn first s 0 bells at ≡ notesBefore s bells at
-unfolding notesIn notesBefore
+notes-in : (s : List ℕ) (bells : List Bell) (at : ℕ) → notesInWith keyFirst first s 0 bells at ≡ notesBefore s bells at
+unfolding notesInWith notesBefore
 notes-in s bells at = rw notes-from refl
 
 bells-in : (s : List ℕ) → bellsIn first s ≡ bellsBefore s
@@ -106,8 +109,8 @@ bells-in s = refl
 -- ---- the file
 
 -- the place of the shift is there where that of the cores is, and 0 is a shift: in version 1 both steps pass
-parts : (s : List ℕ) → readingBy first s ≡ partsBefore s
-unfolding readingBy partsBefore isShift number
+parts : (s : List ℕ) → readingByWith keyFirst first s ≡ partsBefore s
+unfolding readingByWith partsBefore isShift number
 parts s =
     ap (λ (k : Outcome Phrase). _>>_ (require (leb 5 (length s) && eqb (number 4 1 s) (length s - 5)) wrongCount 0) k)
     (go (ltb 5 (length s)) refl
@@ -136,16 +139,24 @@ one-layout v other = go (v - 1) refl
     go (suc zero) e = absurd (other (omega arith))
     go (suc (suc k)) e = refl
 
--- A file of any version but 2 has the answer that it had: one of version 1, the empty one, and one of a version that there is not.
-pub others-as-before : (s : List ℕ) → (number 1 0 s ≡ 2 → ⊥) → reading s ≡ before s
-unfolding reading before
-others-as-before s other =
+-- in the order that a note's rules had then
+in-the-old-order : (s : List ℕ) → (number 1 0 s ≡ 2 → ⊥) → readingBefore s ≡ before s
+unfolding readingWith before
+in-the-old-order s other =
     same-require _ _ wrongVersion 0 _ _ (ap (λ (b : Bool). leb (length s) 0 || b) (one-version (number 1 0 s) other))
-    (ap (λ (l : Layout). readingBy l s) (one-layout (number 1 0 s) other) ∙ parts s)
+    (ap (λ (l : Layout). readingByWith keyFirst l s) (one-layout (number 1 0 s) other) ∙ parts s)
 
--- A file of version 1 has the answer that it had.
-pub as-before : (s : List ℕ) → number 1 0 s ≡ 1 → reading s ≡ before s
+-- A file of any version but 2 has the answer that it had, but that 10 for a note with wrong times is 11: one of version 1, the empty one, and one of a version that there is not.
+pub others-as-before : (s : List ℕ) → (number 1 0 s ≡ 2 → ⊥) → reading s ≡ retold silentKey wrongTimes (inFile timely s) (before s)
+others-as-before s other = from-before s ∙ ap (retold silentKey wrongTimes (inFile timely s)) (in-the-old-order s other)
+
+-- So has a file of version 1.
+pub as-before : (s : List ℕ) → number 1 0 s ≡ 1 → reading s ≡ retold silentKey wrongTimes (inFile timely s) (before s)
 as-before s one = others-as-before s (λ two. omega arith)
+
+-- A phrase that is read now was read then.
+was-read : (s : List ℕ) (x : Phrase) → (number 1 0 s ≡ 2 → ⊥) → reading s ≡ ok x → before s ≡ ok x
+was-read s x other e = sym (in-the-old-order s other) ∙ from-now s ∙ ap (retold wrongTimes silentKey (inFile strikes s)) e
 
 filled : (s : List ℕ) → number 1 0 s ≡ 2 → 0 < length s
 unfolding number
@@ -165,7 +176,7 @@ second-before s e =
 pub unshifted : (s : List ℕ) (x : Phrase) → (number 1 0 s ≡ 2 → ⊥) → reading s ≡ ok x → x .shift ≡ 0
 unfolding before partsBefore
 unshifted s x other e =
-    let version = required (leb (length s) 0 || within 1 1 (number 1 0 s)) wrongVersion 0 (sym (others-as-before s other) ∙ e) in
+    let version = required (leb (length s) 0 || within 1 1 (number 1 0 s)) wrongVersion 0 (was-read s x other e) in
     let count = required (leb 5 (length s) && eqb (number 4 1 s) (length s - 5)) wrongCount 0 (version .1) in
     let there = required (ltb 5 (length s)) wrongEnd 5 (count .1) in
     let cores = required (within 1 8 (number 1 5 s)) wrongCores 5 (there .1) in

@@ -43,9 +43,9 @@ pub note-passed : (shift : ℕ) (bells : List Bell) (own at : ℕ) (a b : Note) 
     → (isSome (find (a .key) shift bells) ≡ true) × (areTimes (a .earliestRelease) (a .latestRelease) (a .deadline) ≡ true) × (rises own 0 (a .listed) ≡ true) × (a ≡ b)
 unfolding noteRules
 note-passed shift bells own at a b e =
-    let sounds = required (isSome (find (a .key) shift bells)) silentKey at e in
-    let times = required (areTimes (a .earliestRelease) (a .latestRelease) (a .deadline)) wrongTimes at (sounds .1) in
-    let rise = required (rises own 0 (a .listed)) wrongListed at (times .1) in
+    let times = required (areTimes (a .earliestRelease) (a .latestRelease) (a .deadline)) wrongTimes at e in
+    let sounds = required (isSome (find (a .key) shift bells)) silentKey at (times .1) in
+    let rise = required (rises own 0 (a .listed)) wrongListed at (sounds .1) in
     (sounds .0, times .0, rise .0, cc (rise .1))
 
 -- A bell that is read: its fields fit, and its file opens the bytes.

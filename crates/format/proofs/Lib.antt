@@ -18,5 +18,8 @@ pub mod Files
 pub mod Jobs
 pub mod Steps
 pub mod Rising
+pub mod AnyRules
+pub mod Retold
+pub mod Order
 pub mod Before
 pub mod Shifting

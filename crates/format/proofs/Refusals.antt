@@ -78,8 +78,8 @@ module _ (l : Layout) where
     note-rules-refuse : (shift : ℕ) (bells : List Bell) (own : ℕ) (n : Note) → Refuses l (noteRules shift bells own at n)
     unfolding noteRules isReadingRefusal
     note-rules-refuse shift bells own n =
-        require-refuses l (isSome (find (n .key) shift bells)) silentKey at (refl, h)
-        (λ b. require-refuses l (areTimes (n .earliestRelease) (n .latestRelease) (n .deadline)) wrongTimes at (refl, h) (λ t. require-refuses l (rises own 0 (n .listed)) wrongListed at (refl, h) (λ r. value-refuses l n)))
+        require-refuses l (areTimes (n .earliestRelease) (n .latestRelease) (n .deadline)) wrongTimes at (refl, h)
+        (λ t. require-refuses l (isSome (find (n .key) shift bells)) silentKey at (refl, h) (λ b. require-refuses l (rises own 0 (n .listed)) wrongListed at (refl, h) (λ r. value-refuses l n)))
 
     bell-refuses : (before : List Bell) (p : List ℕ) → Refuses l (bellRecord l before at p)
     unfolding bellRecord isReadingRefusal

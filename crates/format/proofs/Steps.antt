@@ -11,7 +11,7 @@ use Rattle.model.specs.Refusals.{wrongEnd, wrongBell, doubledKey, wrongNoteLeng
 use Rattle.format.specs.Bytes.{number}
 use Rattle.format.specs.Layout.{Layout, bellBytes, isNoteLength}
 use Rattle.format.specs.Outcome.{ok, refused}
-use Rattle.format.specs.Phrase.{Bell, Note, sounding, findSounding, find}
+use Rattle.format.specs.Phrase.{Bell, Note, sounding, findSounding, find, isSome}
 use Rattle.format.specs.Rules.{bellInRange, bellRules, areTimes, rises, noteRules}
 use Rattle.format.specs.Reading.{bellIn, bellRecord, noteIn, noteRecord, bellsFrom, notesFrom}
 
@@ -35,19 +35,19 @@ module _ (l : Layout) (bs : List Bell) (at : ℕ) (b : Bell) where
     whole f = simp (e, f)
 
 module _ (shift : ℕ) (bs : List Bell) (own at : ℕ) (n : Note) where
-  -- A note is refused where no bell sounds for its key.
-  pub no-bell : find (n .key) shift bs ≡ none → noteRules shift bs own at n ≡ refused silentKey at
+  -- A note is refused for wrong times.
+  pub bad-times : areTimes (n .earliestRelease) (n .latestRelease) (n .deadline) ≡ false → noteRules shift bs own at n ≡ refused wrongTimes at
   unfolding noteRules
-  no-bell e = simp e
+  bad-times e = simp e
 
-  module _ (bell : ℕ) (e : find (n .key) shift bs ≡ some bell) where
-    -- A note with a bell is refused for wrong times.
-    pub bad-times : areTimes (n .earliestRelease) (n .latestRelease) (n .deadline) ≡ false → noteRules shift bs own at n ≡ refused wrongTimes at
+  module _ (e : areTimes (n .earliestRelease) (n .latestRelease) (n .deadline) ≡ true) where
+    -- A note with right times is refused where no bell sounds for its key.
+    pub no-bell : isSome (find (n .key) shift bs) ≡ false → noteRules shift bs own at n ≡ refused silentKey at
     unfolding noteRules
-    bad-times f = simp (e, f)
+    no-bell f = simp (e, f)
 
-    module _ (f : areTimes (n .earliestRelease) (n .latestRelease) (n .deadline) ≡ true) where
-      -- A note with a bell and right times is refused for numbers that do not rise below its own.
+    module _ (f : isSome (find (n .key) shift bs) ≡ true) where
+      -- A note with right times and a bell is refused for numbers that do not rise below its own.
       pub bad-listed : rises own 0 (n .listed) ≡ false → noteRules shift bs own at n ≡ refused wrongListed at
       unfolding noteRules
       bad-listed g = simp (e, f, g)

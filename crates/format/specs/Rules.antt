@@ -64,12 +64,12 @@ unfoldable pub rises : ℕ → ℕ → List ℕ → Bool
 rises own low [] = true
 rises own low (w ∷ ws) = leb low w && (ltb w own && rises own (w + 1) ws)
 
--- a note at its place, with its own number, under a shift
+-- a note at its place, with its own number, under a shift: its times, its key, then what it lists
 unfoldable pub noteRules : ℕ → List Bell → ℕ → ℕ → Note → Outcome Note
 unfolding findFrom areTimes rises
 noteRules shift bells own at n = do
-  require (isSome (find (n .key) shift bells)) silentKey at
   require (areTimes (n .earliestRelease) (n .latestRelease) (n .deadline)) wrongTimes at
+  require (isSome (find (n .key) shift bells)) silentKey at
   require (rises own 0 (n .listed)) wrongListed at
   ok n
 

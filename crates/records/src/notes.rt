@@ -1,13 +1,14 @@
 // The notes of a phrase file, and their rows of words.
 ghost use mathlib.Core.Path.{_≡_};
-ghost use mathlib.Core.List.{[]};
-ghost use Prim.Native.Nat.{_+_, _*_, _≤_, _<_};
+ghost use mathlib.Core.List.{List, []};
+ghost use Prim.Native.Nat.{ℕ, _+_, _*_, _≤_, _<_};
 ghost use lib.ListN.{length};
 ghost use Rattle.model.specs.Limits.{mostJobs};
 ghost use Rattle.words.specs.internal.Placed.{placed};
 ghost use Rattle.format.specs.Bytes.{number};
 ghost use Rattle.format.specs.Layout.{first, mostBells, bellCountAt, noteCountAt};
-ghost use Rattle.format.specs.Rules.{noteRules};
+ghost use Rattle.format.specs.Phrase.{Bell, Note, find, isSome};
+ghost use Rattle.format.specs.Rules.{areTimes, rises, noteRules};
 ghost use Rattle.format.specs.internal.Sized.{Sized};
 ghost use Rattle.format.specs.Reading.{noteIn, noteRecord, notesFrom, notesIn};
 ghost use Rattle.rows.specs.NoteRow.{noteWords, noteRowOn};
@@ -52,7 +53,24 @@ fn put_note(part: &[u8], bell: u32, phrase: &mut [u32], own: usize)
     write_note(part, bell, &mut phrase[from..end]);
 }
 
-// The fields of a note record that is there, after `own` notes: 10, 11, 12, then its row.
+// The first rule that a note breaks, by what was asked of it: its times (11), then its key (10), then what it lists (12).
+pub fn first_broken(timely: bool, struck: bool, rising: bool, at: usize) -> Reading
+    ensures { λ r. ⌜ ((shift : ℕ) (bells : List Bell) (own : ℕ) (n : Note) → timely ≡ areTimes (n .earliestRelease) (n .latestRelease) (n .deadline)
+        → struck ≡ isSome (find (n .key) shift bells) → rising ≡ rises own 0 (n .listed) → r ≡ readingOf (noteRules shift bells own at n)) ⌝ }
+{
+    if !timely {
+        return Reading::Refused(WRONG_TIMES, at);
+    }
+    if !struck {
+        return Reading::Refused(SILENT_KEY, at);
+    }
+    if !rising {
+        return Reading::Refused(WRONG_LISTED, at);
+    }
+    Reading::Whole
+}
+
+// The fields of a note record that is there, after `own` notes: their rules, then its row.
 fn note_fields(
     part: &[u8],
     at: usize,
@@ -66,19 +84,19 @@ fn note_fields(
     ensures { λ _. ⌜ now (phrase .exit) ≡ notePut shift (bellsHeld (now (phrase .entry)) n)
         (noteRules shift (bellsHeld (now (phrase .entry)) n) own at (noteIn first (now (part .entry)))) (now (phrase .entry)) own ⌝ }
 {
-    let key = byte(part, KEY_AT);
-    let Found::At(bell) = find_bell(phrase, n, key, shift) else {
-        return Reading::Refused(SILENT_KEY, at);
-    };
     let earliest = be_32(part, EARLIEST_RELEASE_AT);
     let latest = be_32(part, LATEST_RELEASE_AT);
     let deadline = be_32(part, DEADLINE_AT);
-    if !are_times(earliest, latest, deadline) {
-        return Reading::Refused(WRONG_TIMES, at);
-    }
-    if !do_rise(part, own as u32) {
-        return Reading::Refused(WRONG_LISTED, at);
-    }
+    let timely = are_times(earliest, latest, deadline);
+    let rising = do_rise(part, own as u32);
+    let key = byte(part, KEY_AT);
+    let Found::At(bell) = find_bell(phrase, n, key, shift) else {
+        return first_broken(timely, false, rising, at);
+    };
+    let answer = first_broken(timely, true, rising, at);
+    let Reading::Whole = answer else {
+        return answer;
+    };
     put_note(part, bell, phrase, own);
     Reading::Whole
 }

@@ -30,8 +30,8 @@ pub same-note : (shift : ℕ) (bells : List Bell) (own at : ℕ) (n c : Note) �
 unfolding noteRules
 same-note shift bells own at n c e =
     let (few, e1) = required (leb (length (n .listed)) mostListed) wrongNoteLength at e in
-    let (_, e2) = required (isSome (find (n .key) shift bells)) silentKey at e1 in
-    let (_, e3) = required (areTimes (n .earliestRelease) (n .latestRelease) (n .deadline)) wrongTimes at e2 in
+    let (_, e2) = required (areTimes (n .earliestRelease) (n .latestRelease) (n .deadline)) wrongTimes at e1 in
+    let (_, e3) = required (isSome (find (n .key) shift bells)) silentKey at e2 in
     let (_, e4) = required (rises own 0 (n .listed)) wrongListed at e3 in
     (few, e1 ∙ sym e4)
 

@@ -23,12 +23,10 @@ use fields::layout::NOTE_BYTES;
 use fields::layout::note_count_at;
 use fields::rules::are_times;
 use model::limits::MOST_JOBS;
-use model::refusals::SILENT_KEY;
 use model::refusals::TOO_MANY_NOTES;
-use model::refusals::WRONG_LISTED;
 use model::refusals::WRONG_NOTE_LENGTH;
-use model::refusals::WRONG_TIMES;
 use records::answers::Reading;
+use records::notes::first_broken;
 use rows::BELL_COUNT;
 use rows::NOTE_COUNT;
 use rows::NOTE_ROWS;
@@ -62,7 +60,7 @@ fn do_rise(jobs: &[u32], own: u32) -> bool
     true
 }
 
-// The rules of the note of a row: 9, 10, 11, 12.
+// The rules of the note of a row: how many it lists, then those that a reader asks as well.
 fn ask_note(row: &[u32], own: u32, at: usize, shift: u32, sounded: &[u8]) -> Reading
     requires { ⌜ (length (now row) ≡ noteWords) × (isTransposition shift ≡ true) × (length (now sounded) ≡ suc highestKey) ⌝ }
     ensures { λ r. ⌜ ((bells : List Bell) → Sounded bells (now (sounded .entry)) → r ≡ readingOf (noteAsked shift bells own at (noteOfRow (now (row .entry))))) ⌝ }
@@ -71,16 +69,10 @@ fn ask_note(row: &[u32], own: u32, at: usize, shift: u32, sounded: &[u8]) -> Rea
     if MOST_LISTED < count {
         return Reading::Refused(WRONG_NOTE_LENGTH, at);
     }
-    if !is_struck(sounded, row[KEY], shift) {
-        return Reading::Refused(SILENT_KEY, at);
-    }
-    if !are_times(row[EARLIEST_RELEASE], row[LATEST_RELEASE], row[DEADLINE]) {
-        return Reading::Refused(WRONG_TIMES, at);
-    }
-    if !do_rise(&row[LISTED..LISTED + count as usize], own) {
-        return Reading::Refused(WRONG_LISTED, at);
-    }
-    Reading::Whole
+    let timely = are_times(row[EARLIEST_RELEASE], row[LATEST_RELEASE], row[DEADLINE]);
+    let struck = is_struck(sounded, row[KEY], shift);
+    let rising = do_rise(&row[LISTED..LISTED + count as usize], own);
+    first_broken(timely, struck, rising, at)
 }
 
 // The rules of the first `count` notes, from `start` on; the answer has the place where they end.

@@ -7,6 +7,7 @@ use reference::reading::Phrase;
 use crate::counts::Counts;
 use crate::differences::same;
 use crate::tally::Tally;
+use crate::was_10::WasTen;
 
 /// With so late a last call the literal run is slow.
 const LONG: u64 = 20_000;
@@ -18,6 +19,7 @@ pub fn is_long(scenario: &Scenario) -> bool {
 /// What was compared.
 pub struct Kinds {
     pub answers: Tally,
+    pub was_10: WasTen,
     /// What alone is wrong where the answer is 17, or what would be 18.
     malformed: Counts<5>,
     /// What is wrong with the stroke that an 18 names.
@@ -33,6 +35,7 @@ impl Kinds {
     pub fn new() -> Kinds {
         Kinds {
             answers: Tally::default(),
+            was_10: WasTen::default(),
             malformed: Counts::new(
                 "17",
                 [
@@ -66,6 +69,7 @@ impl Kinds {
 
     pub fn print(&self) {
         (self.answers).print("random playings that agree, by their answer");
+        self.was_10.print("of these");
         self.malformed.print();
         self.outside.print();
         self.how_many.print();
@@ -83,6 +87,7 @@ impl Kinds {
             let often = self.answers.counts[kind] * of >= cases;
             same(often, format!("answer {kind} is rare"))?;
         }
+        self.was_10.demand(cases)?;
         self.malformed.demand(cases, 200)?;
         self.outside.demand(cases, 100)?;
         self.how_many.demand(cases, 100)?;

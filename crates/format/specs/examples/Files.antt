@@ -187,10 +187,6 @@ notes =
     ∷ row (set fileP 28 0x01) (refused 11 22)
     -- note 1 is due before its ra
     ∷ row (set (set fileP 41 0x09) 45 0x09) (ok (noted (note0 ∷ note 74 9 9 6 [] ∷ [])))
-    -- no bell and wrong times: 10 comes before 11
-    ∷ row (set (set fileP 23 0x3D) 27 0x06) (refused 10 22)
-    -- no bell, and a listed number that is its own: 10 comes before 12
-    ∷ row (listing 0x3E 0x01) (refused 10 36)
     -- note 1 lists job 0, which is also the nearest earlier job of its bell
     ∷ row (listing 0x3C 0x00) (ok (noted (note0 ∷ note 60 0 0 6 (0 ∷ []) ∷ [])))
     -- two notes more, of bell 0: the last lists jobs 0 and 2, of which 2 is its bell's

@@ -91,13 +91,9 @@ notes =
     ∷ refuses (noted (note 316 0 5 7 [] ∷ [])) 10 22
     -- the note before lists a number, and takes 15 bytes
     ∷ refuses (noted (note0 ∷ note 74 0 0 6 (0 ∷ []) ∷ note 61 0 0 6 [] ∷ [])) 10 51
-    -- no bell and wrong times: 10 comes before 11
-    ∷ refuses (noted (note 61 6 5 7 [] ∷ [])) 10 22
     -- ra beyond rb; a due time that is 7 in four bytes
     ∷ refuses (noted (note 60 6 5 7 [] ∷ [])) 11 22
     ∷ refuses (noted (note 60 0 5 4294967303 [] ∷ [])) 11 22
-    -- wrong times, and its own number: 11 comes before 12
-    ∷ refuses (noted (note 60 6 5 7 (0 ∷ []) ∷ [])) 11 22
     -- its own number, and a number that is 0 in one byte
     ∷ refuses (noted (note0 ∷ note 74 0 0 6 (1 ∷ []) ∷ [])) 12 36
     ∷ refuses (noted (note0 ∷ note 74 0 0 6 (256 ∷ []) ∷ [])) 12 36
