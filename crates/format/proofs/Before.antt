@@ -154,7 +154,7 @@ others-as-before s other = from-before s ∙ ap (retold silentKey wrongTimes (in
 pub as-before : (s : List ℕ) → number 1 0 s ≡ 1 → reading s ≡ retold silentKey wrongTimes (inFile timely s) (before s)
 as-before s one = others-as-before s (λ two. omega arith)
 
--- A phrase that is read now was read then.
+-- a phrase that is read now was read then
 was-read : (s : List ℕ) (x : Phrase) → (number 1 0 s ≡ 2 → ⊥) → reading s ≡ ok x → before s ≡ ok x
 was-read s x other e = sym (in-the-old-order s other) ∙ from-now s ∙ ap (retold wrongTimes silentKey (inFile strikes s)) e
 
@@ -163,7 +163,7 @@ unfolding number
 filled [] e = absurd (omega arith)
 filled (b ∷ s) e = omega arith
 
--- A file of version 2 was refused: no other file has another answer now.
+-- A file of version 2 was refused; so but for the order of a note's rules no other file has another answer now.
 pub second-before : (s : List ℕ) → number 1 0 s ≡ 2 → before s ≡ refused wrongVersion 0
 unfolding before within
 second-before s e =

@@ -133,14 +133,14 @@ asked-as-before x = became (inPhrase timely x) (inPhrase strikes x) (rulesBefore
 -- ---- the answers that there were
 
 -- Of every row of the files that break more than one rule.
-pub then : map (λ (c : Case). readingBefore (c .file)) table
+pub read-then : map (λ (c : Case). readingBefore (c .file)) table
     ≡ refused 10 22 ∷ refused 11 22 ∷ refused 12 22 ∷ refused 10 22 ∷ refused 11 22 ∷ refused 10 22 ∷ refused 10 22
     ∷ refused 10 36 ∷ refused 11 36 ∷ refused 12 36 ∷ refused 10 36 ∷ refused 11 36 ∷ refused 10 36 ∷ refused 10 36
     ∷ refused 10 23 ∷ refused 11 23 ∷ refused 10 23 ∷ refused 10 23 ∷ refused 10 37 ∷ refused 11 37 ∷ refused 10 37 ∷ refused 10 37
     ∷ ok (noted (note 60 0 5 7 [] ∷ note 74 0 5 7 (0 ∷ []) ∷ [])) ∷ refused 12 22 ∷ refused 10 22 ∷ refused 10 22 ∷ refused 10 22 ∷ refused 9 22 ∷ refused 3 36
     ∷ []
 unfolding readingWith isVersion number readingByWith layout isShift bellsIn notesInWith notesFromWith noteRecordWith isNoteLength keyFirst noteIn areTimes rises
-then = refl
+read-then = refl
 
 -- Of every such phrase.
 pub asked-then : map (λ (c : Asked). rulesBefore (c .asked)) askedTable

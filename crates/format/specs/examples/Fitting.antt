@@ -4,7 +4,7 @@ use native.Mathlib.Omega.{arith}
 use Rattle.format.specs.Layout.{layout, noteLength}
 use Rattle.format.specs.Fits.{All, Fits}
 use Rattle.format.specs.Writing.{body}
-use Rattle.format.specs.examples.Files.{bell, note, phrase, bell0, bell1, note0, phraseP, noted, belled}
+use Rattle.format.specs.examples.Files.{bell, note, bell0, bell1, note0, phraseP, noted, belled}
 use Rattle.format.specs.examples.Shifts.{shifted}
 
 -- ---- P fits, and so does a phrase that the rules refuse: out of range, but not too wide

@@ -4,7 +4,7 @@ use Prim.Native.Nat.{ℕ, _+_}
 use mathlib.Core.Path.{_≡_, refl}
 use mathlib.Core.List.{List, [], _∷_, _++_, map}
 use lib.ListN.{length, take, set}
-use Rattle.format.specs.Outcome.{Outcome, ok, refused}
+use Rattle.format.specs.Outcome.{ok, refused}
 use Rattle.format.specs.Phrase.{Note, Phrase}
 use Rattle.format.specs.Rules.{rules}
 use Rattle.format.specs.Reading.{reading}

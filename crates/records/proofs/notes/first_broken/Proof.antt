@@ -1,5 +1,5 @@
 -- `notes::first_broken` meets its contract: each way out is a case of `noteRules`. Assumes nothing.
-use mathlib.Core.Path.{_≡_, sym, ap, _∙_}
+use mathlib.Core.Path.{sym, ap, _∙_}
 use borrow.Author.Tests.{not-true, not-false}
 use Rattle.format.proofs.Steps.{bad-times, no-bell, bad-listed, right}
 use Rattle.records.specs.internal.Answers.{readingOf}

@@ -1,5 +1,5 @@
 -- `notes::note_fields` meets its contract: what is asked of the note decides its rules, and a note that they let pass has its row. Assumes nothing.
-use mathlib.Core.Path.{_≡_, refl, sym, ap, _∙_}
+use mathlib.Core.Path.{_≡_, sym, ap, _∙_}
 use mathlib.Core.Bool.{false≢true}
 use mathlib.Core.List.{List}
 use mathlib.Core.Option.{none, some}
