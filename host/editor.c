@@ -1,9 +1,11 @@
 /*
- * editor IN OUT [--bell N --transpose SEMITONES [--follow]] [--shift SEMITONES] [--due MILLISECONDS]: edits a phrase, as an editor's host program does.
+ * editor IN OUT [--bell N [--transpose SEMITONES [--follow]] [--rest MILLISECONDS]] [--shift SEMITONES] [--due MILLISECONDS]: edits a phrase, as an editor's
+ * host program does.
  *
  * Reads the phrase file IN, sets the shift, which is added to the keys of all notes, sets the transposition of bell N (with --follow, also the key of each
- * note that strikes it, which finds no bell otherwise), moves all due times, and writes the phrase as the file OUT. That has IN's version; but version 1 has
- * no shift, so a shift other than 0 makes it version 2. Standard output gets what changed, and what the check says before and after.
+ * note that strikes it, which finds no bell otherwise) and its rest, moves all due times, and writes the phrase as the file OUT. That has IN's version; but
+ * version 1 has no shift, so a shift other than 0 makes it version 2, and only version 3 has rests, so a rest other than 0 makes it version 3. Standard output
+ * gets what changed, and what the check says before and after.
  *
  * OUT is opened only when the whole new file is there. It may be IN; but a write that fails, as on a full disk, may leave it cut short.
  *
@@ -25,11 +27,12 @@
 
 enum { STATUS_WRITTEN = 0, STATUS_REFUSED = 1, STATUS_TROUBLE = 2 };
 
-#define USAGE "usage: editor IN OUT [--bell N --transpose SEMITONES [--follow]] [--shift SEMITONES] [--due MILLISECONDS]\n"
+#define USAGE "usage: editor IN OUT [--bell N [--transpose SEMITONES [--follow]] [--rest MILLISECONDS]] [--shift SEMITONES] [--due MILLISECONDS]\n"
 static const char help[] = USAGE
     "Edits the phrase of the file IN, writes it as the file OUT, and says what changed.\n"
     "  --bell N --transpose SEMITONES  sets the transposition of bell N, from 0 on, to so many semitones, as -3\n"
     "  --follow                        gives each note that strikes this bell its new key\n"
+    "  --bell N --rest MILLISECONDS    sets how long a stroke of bell N has to be done before the next; other than 0, it makes the file version 3\n"
     "  --shift SEMITONES               sets the shift of all notes to so many semitones, as -4; other than 0, it makes a version 1 file version 2\n"
     "  --due MILLISECONDS              moves all due times by so many milliseconds, as -150\n"
     "Exit status: 0 OUT is written, whatever the check says of it; 1 the phrase is refused, and OUT untouched; 2 trouble.\n";
@@ -40,7 +43,7 @@ struct number {
 };
 
 struct edit {
-    struct number bell, transpose, shift, due;
+    struct number bell, transpose, rest, shift, due;
     int follow;
 };
 
@@ -69,6 +72,8 @@ static int parse_option(const char *option, const char *value, struct edit *edit
         return parse_number(value, 0, UINT32_MAX, &edit->bell);
     if (strcmp(option, "--transpose") == 0)
         return parse_number(value, INT_MIN, INT_MAX, &edit->transpose);
+    if (strcmp(option, "--rest") == 0)
+        return parse_number(value, 0, UINT32_MAX, &edit->rest);
     if (strcmp(option, "--shift") == 0)
         return parse_number(value, INT_MIN, INT_MAX, &edit->shift);
     if (strcmp(option, "--due") == 0)
@@ -87,7 +92,7 @@ static int parse_edit(char **argument, struct edit *edit)
         else if (*argument == NULL || !parse_option(option, *argument++, edit))
             return 0;
     }
-    if (edit->bell.given != edit->transpose.given || (edit->follow && !edit->bell.given))
+    if (edit->bell.given != (edit->transpose.given || edit->rest.given) || (edit->follow && !edit->transpose.given))
         return 0;
     return edit->bell.given || edit->shift.given || edit->due.given;
 }
@@ -97,6 +102,13 @@ static void set_shift(struct phrase *phrase, int semitones)
     phrase->shift = phrase_transposition(semitones);
     if (phrase->version == 1 && phrase->shift != 0)
         phrase->version = 2;
+}
+
+static void set_rest(struct phrase *phrase, uint32_t number, uint32_t rest)
+{
+    phrase->bells[number].rest = rest;
+    if (rest != 0)
+        phrase->version = 3;
 }
 
 static void transpose(struct phrase *phrase, uint32_t number, int semitones, int follow)
@@ -124,9 +136,9 @@ static void move_due_times(struct phrase *phrase, int64_t milliseconds)
 /* The number of the bell or note whose record would start at this place of the file. */
 static unsigned record_at(const struct phrase *phrase, uint32_t place)
 {
-    uint32_t bells = phrase->version == 1 ? 7 : 8, at = bells + 7 * phrase->bell_count + 1, note = 0;
+    uint32_t bells = phrase->version == 1 ? 7 : 8, size = phrase->version == 3 ? 9 : 7, at = bells + size * phrase->bell_count + 1, note = 0;
     if (place < at)
-        return (place - bells) / 7;
+        return (place - bells) / size;
     while (at < place && note < phrase->note_count)
         at += 14 + phrase->notes[note++].wait_count;
     return note;
@@ -137,7 +149,7 @@ static const char *reason(uint32_t number)
 {
     switch (number) {
     case PHRASE_BELL_FIELD:
-        return "the transposition, or the key that it sounds for, is out of range";
+        return "the transposition, the key that it sounds for, or the rest is out of range";
     case PHRASE_SAME_KEY:
         return "an earlier bell sounds for the same key";
     case PHRASE_NO_BELL:
@@ -174,6 +186,9 @@ static void print_fields(const struct phrase *old, const struct phrase *edited)
         if (edited->bells[i].transposition != old->bells[i].transposition)
             printf("bell %u: transposition %d -> %d, sounding key %u -> %u\n", i, phrase_semitones(old->bells[i].transposition),
                    phrase_semitones(edited->bells[i].transposition), (unsigned)old->bells[i].sounding, (unsigned)edited->bells[i].sounding);
+    for (i = 0; i < edited->bell_count; i++)
+        if (edited->bells[i].rest != old->bells[i].rest)
+            printf("bell %u: rest %u -> %u\n", i, (unsigned)old->bells[i].rest, (unsigned)edited->bells[i].rest);
     for (i = 0; i < edited->note_count; i++)
         if (edited->notes[i].key != old->notes[i].key)
             printf("note %u: key %u -> %u\n", i, (unsigned)old->notes[i].key, (unsigned)edited->notes[i].key);
@@ -228,7 +243,9 @@ static int edit_file(const char *in, const char *out, struct bytes old, const st
     edited = phrase;
     if (edit->shift.given)
         set_shift(&edited, (int)edit->shift.value);
-    if (edit->bell.given)
+    if (edit->rest.given)
+        set_rest(&edited, (uint32_t)edit->bell.value, (uint32_t)edit->rest.value);
+    if (edit->transpose.given)
         transpose(&edited, (uint32_t)edit->bell.value, (int)edit->transpose.value, edit->follow);
     if (edit->due.given)
         move_due_times(&edited, edit->due.value);

@@ -49,12 +49,12 @@ extern "C" {
  */
 enum phrase_number {
     PHRASE_ACCEPTED = 0,
-    PHRASE_VERSION = 1,      /* not empty, and of a version other than 1 and 2;      place: 0 */
+    PHRASE_VERSION = 1,      /* not empty, and of a version other than 1, 2 and 3;   place: 0 */
     PHRASE_COUNT = 2,        /* under 5 bytes, or the count of bytes is wrong;       place: 0 */
     PHRASE_END = 3,          /* a field or record passes the end, or bytes remain;   place: its first byte, or the first that remains */
     PHRASE_DRIVERS = 4,      /* not 1 to 8 drivers;                                  place: 5 */
-    PHRASE_BELLS = 5,        /* not 1 to 96 bells;                                   place: 6, in version 2: 7 */
-    PHRASE_BELL_FIELD = 6,   /* a field of a bell is out of range;                   place: the bell's first byte */
+    PHRASE_BELLS = 5,        /* not 1 to 96 bells;                                   place: 6, from version 2 on: 7 */
+    PHRASE_BELL_FIELD = 6,   /* a field of a bell is out of range, its rest too;     place: the bell's first byte */
     PHRASE_SAME_KEY = 7,     /* an earlier bell sounds for the same key;             place: the bell's first byte */
     PHRASE_STROKES = 8,      /* over 64 strokes;                                     place: the byte that says so */
     PHRASE_NOTE_LENGTH = 9,  /* a note's length is not 13 to 17;                     place: the note's first byte */
@@ -97,16 +97,16 @@ size_t phrase_report_with(const uint8_t *file, size_t file_len, uint32_t *table,
 #define PHRASE_MOST_BELLS 96
 #define PHRASE_MOST_NOTES 64
 #define PHRASE_MOST_WAITS 4
-#define PHRASE_FILE_BYTES 1833
+#define PHRASE_FILE_BYTES 2025
 
-/* A bell. phrase_write reads what is neither derived nor spare. */
+/* A bell. phrase_write reads what is not derived. */
 struct phrase_bell {
     uint32_t key;           /* N, as written */
     uint32_t transposition; /* T, as the file's byte: 253 is -3. phrase_semitones and phrase_transposition turn it to and from an int */
     uint32_t least_hold;    /* ca */
     uint32_t most_hold;     /* cb */
     uint32_t rank;          /* p */
-    uint32_t spare;         /* 0 when read; leave it so */
+    uint32_t rest;          /* so long has a stroke of the bell to be done before its next one starts. Version 3 has it; in others it is 0 */
     uint32_t sounding;      /* derived: the key that the bell sounds for, N + T */
 };
 
@@ -137,7 +137,7 @@ typedef char phrase_is_its_words[
     sizeof(struct phrase_bell) == 28 && sizeof(struct phrase_note) == 40 && sizeof(struct phrase) == 5268
     && offsetof(struct phrase_bell, key) == 0 && offsetof(struct phrase_bell, transposition) == 4
     && offsetof(struct phrase_bell, least_hold) == 8 && offsetof(struct phrase_bell, most_hold) == 12
-    && offsetof(struct phrase_bell, rank) == 16 && offsetof(struct phrase_bell, spare) == 20
+    && offsetof(struct phrase_bell, rank) == 16 && offsetof(struct phrase_bell, rest) == 20
     && offsetof(struct phrase_bell, sounding) == 24
     && offsetof(struct phrase_note, key) == 0 && offsetof(struct phrase_note, earliest_call) == 4
     && offsetof(struct phrase_note, latest_call) == 8 && offsetof(struct phrase_note, due) == 12
@@ -155,14 +155,15 @@ typedef char phrase_is_its_words[
 uint64_t phrase_read(const uint8_t *file, size_t file_len, struct phrase *phrase);
 
 /*
- * Writes a phrase as a file of its version, 1 or 2.
+ * Writes a phrase as a file of its version, 1 to 3.
  * Gives the file's length, which is below 4294967296, so that phrase_refusal of it is 0; the bytes of file past that length are untouched. Otherwise gives a
  * refusal's number times 4294967296 plus its place, and all of file is untouched: the first of 1, 4, 19, 5, of the bells' 6 and 7, of 8 and of the notes' 9,
  * 11, 10 and 12, in the order of the file, at the place where reading would find the field; then 16 at 0 where file_len is less than the file's length.
- * A version 1 file has no place for a shift, so one other than 0 is refused there, with 19 at 6.
+ * A version 1 file has no place for a shift, so one other than 0 is refused there, with 19 at 6; and one of version 1 or 2 has none for rests, so a bell with
+ * one other than 0 is refused there, with 6 at the bell's first byte.
  * A field that is too wide for its bytes is refused like one out of range, and never cut: 19 for a shift that is too wide, 6 for a rank or a transposition
- * above 255, 9 for more than four waits, 10 for a key above 255, whatever the shift. What was read from a file is written as that very file; what was written
- * is read as the same phrase.
+ * above 255 or a rest above 5000, 9 for more than four waits, 10 for a key above 255, whatever the shift. What was read from a file is written as that very
+ * file; what was written is read as the same phrase.
  */
 uint64_t phrase_write(const struct phrase *phrase, uint8_t *file, size_t file_len);
 

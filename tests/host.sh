@@ -81,6 +81,7 @@ runs() {
 p=examples/phrase-p.phrase
 etude=examples/etude.phrase
 down=examples/etude-down.phrase
+heavy=examples/etude-heavy.phrase
 : >"$folder/empty"
 { head -c 35 "$p"; printf '\x06'; tail -c +37 "$p"; } >"$folder/late"
 { head -c 7 "$p"; printf '\x0B'; tail -c +9 "$p"; } >"$folder/bell"
@@ -94,10 +95,25 @@ head -c 300000 /dev/zero >"$folder/long"
 } >"$folder/shifted"
 { head -c 6 "$folder/shifted"; printf '\x19'; tail -c +8 "$folder/shifted"; } >"$folder/shift"
 
-# Playings of P: stroke 0 called while stroke 1 holds the driver, and at its latest; stroke 1 held too long. And a phrase without strokes, with its playing.
+# The same in version 3, with rests of 7 and 5000, which do not matter, for no bell is struck twice; and with a rest of 5001.
+{
+  printf '\x03\0\0\0\x32'; head -c 14 "$folder/shifted" | tail -c +6; printf '\0\x07'
+  head -c 21 "$folder/shifted" | tail -c +15; printf '\x13\x88'; tail -c +22 "$folder/shifted"
+} >"$folder/rested"
+{ head -c 24 "$folder/rested"; printf '\x89'; tail -c +26 "$folder/rested"; } >"$folder/rest"
+# Two strokes of a bell that holds for 2..3, due at 3 and 6; and in version 3 the bell rests for 1, so that the second is ready at 3..4, and may be late.
+printf '\x01\0\0\0\x26\x01\x01\x3C\0\0\x02\0\x03\x01\x02' >"$folder/twice"
+printf '\x03\0\0\0\x29\x01\0\x01\x3C\0\0\x02\0\x03\0\x01\x01\x02' >"$folder/twice-rested"
+for file in twice twice-rested; do
+  printf '\x0D\x3C\0\0\0\0\0\0\0\0\0\0\0\x03\x0D\x3C\0\0\0\0\0\0\0\0\0\0\0\x06' >>"$folder/$file"
+done
+
+# Playings of P: stroke 0 called while stroke 1 holds the driver, and at its latest; stroke 1 held too long. One of the two strokes of one bell. And a phrase
+# without strokes, with its playing.
 printf '\x01\0\0\0\x0C\0\0\0\x01\0\x02\0\0\0\0\0\x04' >"$folder/playing"
 printf '\x01\0\0\0\x0C\0\0\0\x05\0\x02\0\0\0\0\0\x04' >"$folder/playing-late"
 printf '\x01\0\0\0\x0C\0\0\0\x05\0\x02\0\0\0\0\0\x05' >"$folder/playing-outside"
+printf '\x01\0\0\0\x0C\0\0\0\0\0\x03\0\0\0\0\0\x02' >"$folder/playing-twice"
 printf '\x01\0\0\0\x0A\x01\x01\x3C\0\0\x01\0\x01\0\0' >"$folder/silence"
 printf '\x01\0\0\0\0' >"$folder/playing-silence"
 
@@ -120,13 +136,20 @@ player_usage='usage: player FILE [WORDS] [--play PLAYING]\n'
 
 # play_all HOW: everything that the player can answer without a playing.
 play_all() {
-  local text_p text_etude text_down f=$folder usage=$player_usage words
+  local text_p text_etude text_down text_heavy f=$folder usage=$player_usage words
   text_p=$(cat examples/phrase-p.report)'\n'
   text_etude=$(cat examples/etude.report)'\n'
   text_down=$(cat examples/etude-down.report)'\n'
+  text_heavy=$(cat examples/etude-heavy.report)'\n'
   plays "$1" 0 "$text_p" "player: $p: accepted\n" "$p"
   plays "$1" 0 "$text_etude" "player: examples/etude.phrase: accepted\n" examples/etude.phrase
   plays "$1" 0 "$text_down" "player: $down: accepted\n" "$down"
+  plays "$1" 0 "$text_heavy" "player: $heavy: accepted\n" "$heavy"
+  plays "$1" 0 "$text_heavy" "player: $heavy: accepted\n" "$heavy" 131072
+  plays "$1" 0 "$text_p" "player: $f/rested: accepted\n" "$f/rested" 32
+  plays "$1" 1 'refused 13 level 1\n' "player: $f/rested: refused, number 13, level 1\n" "$f/rested" 31
+  plays "$1" 1 'refused 6 at 17\n' "player: $f/rest: refused, number 6, byte 17\n" "$f/rest"
+  plays "$1" 1 'refused 14 stroke 1 ends 5..7\n' "player: $f/twice-rested: refused, number 14, stroke 1\n" "$f/twice-rested"
   plays "$1" 0 "$text_p" "player: $f/shifted: accepted\n" "$f/shifted" 32
   plays "$1" 1 'refused 13 level 1\n' "player: $f/shifted: refused, number 13, level 1\n" "$f/shifted" 31
   plays "$1" 1 'refused 19 at 6\n' "player: $f/shift: refused, number 19, byte 6\n" "$f/shift"
@@ -151,15 +174,23 @@ play_all() {
 
 # play_playings HOW: playings that are worked out, also where the check refuses the phrase, wherever the option stands.
 play_playings() {
-  local f=$folder text_p text_etude text_down late
+  local f=$folder text_p text_etude text_down text_heavy text_twice late
   text_p=$(cat examples/phrase-p.report)'\nstroke 0 start 4 end 6 reported 2..7\nstroke 1 start 0 end 4 reported 4..6\n'
   text_etude=$(cat examples/etude.report)'\n'$(cat examples/etude.played)'\n'
   text_down=$(cat examples/etude-down.report)'\n'$(cat examples/etude.played)'\n'
+  text_heavy=$(cat examples/etude-heavy.report)'\n'$(cat examples/etude-heavy.played)'\n'
+  text_twice='stroke 0 key C4 bell 0 ends 2..3 response 2..3 due 3\nstroke 1 key C4 bell 0 ends 4..6 response 4..6 due 6\n'
+  text_twice+='accepted strokes 2 states 3 hold 6\nstroke 0 start 0 end 3 reported 2..3\nstroke 1 start 3 end 5 reported 4..6\n'
   late='stroke 0 start 5 end 7\nstroke 1 start 0 end 4\n'
   plays "$1" 0 "$text_etude" "player: $etude: accepted\n" "$etude" --play examples/etude.playing
   plays "$1" 0 "$text_etude" "player: $etude: accepted\n" --play examples/etude.playing "$etude" 131072
   plays "$1" 0 "$text_down" "player: $down: accepted\n" "$down" --play examples/etude.playing
+  plays "$1" 0 "$text_heavy" "player: $heavy: accepted\n" "$heavy" --play examples/etude.playing
   plays "$1" 0 "$text_p" "player: $f/shifted: accepted\n" "$f/shifted" --play "$f/playing"
+  plays "$1" 0 "$text_p" "player: $f/rested: accepted\n" "$f/rested" --play "$f/playing"
+  plays "$1" 0 "$text_twice" "player: $f/twice: accepted\n" "$f/twice" --play "$f/playing-twice"
+  plays "$1" 1 'refused 14 stroke 1 ends 5..7\nstroke 0 start 0 end 3\nstroke 1 start 4 end 6\n' \
+    "player: $f/twice-rested: refused, number 14, stroke 1\n" "$f/twice-rested" --play "$f/playing-twice"
   plays "$1" 0 "$text_p" "player: $p: accepted\n" "$p" --play "$f/playing"
   plays "$1" 0 "$text_p" "player: $p: accepted\n" "$p" 32 --play "$f/playing"
   plays "$1" 0 "$text_p" "player: $p: accepted\n" "$p" --play "$f/playing" 32
@@ -186,6 +217,7 @@ play_refused() {
   plays "$1" 1 'refused 2 at 0\n' "player: $f/empty: refused, number 2, byte 0\n" "$f/empty" --play "$f/empty"
   plays "$1" 1 'refused 19 at 6\n' "player: $f/shift: refused, number 19, byte 6\n" "$f/shift" --play "$f/playing"
   plays "$1" 1 'refused 19 at 6\n' "player: $f/shift: refused, number 19, byte 6\n" "$f/shift" --play "$f/empty"
+  plays "$1" 1 'refused 6 at 17\n' "player: $f/rest: refused, number 6, byte 17\n" "$f/rest" --play "$f/playing"
 }
 
 # play_trouble HOW: playings that cannot be read, and wrong usage.
@@ -216,6 +248,22 @@ changed() {
   done
   tail -c +$((at + 1)) "$file"
 }
+# with_rests FILE REST..: a version 1 file as version 3, without a shift and with these rests, four hexadecimal digits for each bell.
+with_rests() {
+  local file=$1 at=7 rest
+  shift
+  printf '\x03%b' "$(printf '%08X' $(($(wc -c <"$file") - 4 + 2 * $#)) | sed 's/../\\x&/g')"
+  head -c 6 "$file" | tail -c 1
+  printf '\0'
+  head -c 7 "$file" | tail -c 1
+  for rest in "$@"; do
+    head -c $((at + 6)) "$file" | tail -c 6
+    printf '%b' "\\x${rest:0:2}\\x${rest:2}"
+    head -c $((at + 7)) "$file" | tail -c 1
+    at=$((at + 7))
+  done
+  tail -c +$((at + 1)) "$file"
+}
 # P with a third bell, key 64, which no note strikes.
 { printf '\x01\x00\x00\x00\x34\x01\x03'; head -c 21 "$p" | tail -c 14; printf '\x40\x00\x00\x01\x00\x01\x03'; tail -c +22 "$p"; } >"$folder/third"
 changed "$folder/third" 22 FE >"$folder/third-down"
@@ -236,6 +284,21 @@ changed "$folder/two-up" 6 03 9 05 24 3E >"$folder/two-follow"
 printf '\x02\0\0\0\x19\x01\x18\x01\x24\0\0\x01\0\x01\0\x01\x0D\x0C\0\0\0\0\0\0\0\0\0\0\0\x09' >"$folder/far-up"
 changed "$folder/far-up" 6 E8 8 5F 17 77 >"$folder/far-down"
 changed "$folder/far-down" 9 18 17 8F >"$folder/far-down-up"
+# In version 3: third and third-down, whose last bell rests for 40, and third without a rest; both, whose last bell rests for 9; two, whose last bell rests for
+# 7, and shifted; P rested without its first rest, and with a second of 1; two strokes of one bell, without a rest, and with one and later due times; the etude,
+# whose G4 rests for 40; the etude on heavy bells, whose G4 does not.
+with_rests "$folder/third" 0000 0000 0028 >"$folder/third-rested"
+changed "$folder/third-rested" 33 00 >"$folder/third-restless"
+with_rests "$folder/third-down" 0000 0000 0028 >"$folder/third-down-rested"
+with_rests "$folder/both" 0000 0009 >"$folder/both-rested"
+with_rests "$folder/two" 0000 0007 >"$folder/two-rested"
+changed "$folder/two-rested" 6 02 >"$folder/two-up-rested"
+changed "$folder/rested" 15 00 >"$folder/shifted-rested"
+changed "$folder/rested" 23 00 24 01 >"$folder/rested-less"
+changed "$folder/twice-rested" 15 00 >"$folder/twice-restless"
+changed "$folder/twice-rested" 31 04 45 07 >"$folder/twice-later"
+with_rests "$etude" 0000 0000 0028 0000 0000 0000 0000 0000 >"$folder/etude-rested"
+changed "$heavy" 33 00 >"$folder/heavy-restless"
 printf 'kept' >"$folder/kept"
 out=$folder/edited
 
@@ -267,6 +330,38 @@ troubles() {
   local how=$1 complaint=$2
   shift 2
   edits "$how" 2 '' "$complaint\n" "$folder/kept" "$@"
+}
+
+# edit_rests HOW: rests that are set, in files of each version, and set to 0, which leaves a version as it is.
+edit_rests() {
+  local f=$folder text
+  writes "$1" "$f/third-rested" 'version: 1 -> 3\nbell 2: rest 0 -> 40\nbytes: 57 -> 64\n' "$f/third" --bell 2 --rest 40
+  writes "$1" "$f/third-restless" 'bell 2: rest 40 -> 0\nbytes: 64, 1 changed\n' "$f/third-rested" --rest 0 --bell 2
+  writes "$1" "$f/third-rested" 'bell 2: rest 0 -> 40\nbytes: 64, 1 changed\n' "$f/third-restless" --bell 2 --rest 40
+  writes "$1" "$f/third" 'bytes: 57, 0 changed\n' "$f/third" --bell 2 --rest 0
+  writes "$1" "$f/shifted" 'bytes: 51, 0 changed\n' "$f/shifted" --bell 1 --rest 0
+  writes "$1" "$f/shifted-rested" 'version: 2 -> 3\nbell 1: rest 0 -> 5000\nbytes: 51 -> 55\n' "$f/shifted" --bell 1 --rest 5000
+  writes "$1" "$f/rested" 'bell 0: rest 0 -> 7\nbytes: 55, 1 changed\n' "$f/shifted-rested" --bell 0 --rest 7
+  writes "$1" "$f/rested-less" 'bell 1: rest 5000 -> 1\nbytes: 55, 2 changed\n' "$f/rested" --bell 1 --rest 1
+  writes "$1" "$f/two-rested" 'version: 1 -> 3\nbell 1: rest 0 -> 7\nbytes: 36 -> 41\n' "$f/two" --bell 1 --rest 7
+  writes "$1" "$f/two-up-rested" 'shift: 0 -> 2\nbytes: 41, 1 changed\n' "$f/two-rested" --shift 2
+  writes "$1" "$f/two-up-rested" 'version: 1 -> 3\nshift: 0 -> 2\nbell 1: rest 0 -> 7\nbytes: 36 -> 41\n' "$f/two" --bell 1 --rest 7 --shift 2
+  writes "$1" "$f/two-up-rested" 'version: 2 -> 3\nbell 1: rest 0 -> 7\nbytes: 37 -> 41\n' "$f/two-up" --bell 1 --rest 7
+  text='version: 1 -> 3\nbell 2: transposition 0 -> -2, sounding key 64 -> 62\nbell 2: rest 0 -> 40\nbytes: 57 -> 64\n'
+  writes "$1" "$f/third-down-rested" "$text" "$f/third" --bell 2 --transpose -2 --rest 40
+  text='bell 2: transposition -2 -> 0, sounding key 62 -> 64\nbell 2: rest 40 -> 0\nbytes: 64, 2 changed\n'
+  writes "$1" "$f/third-restless" "$text" "$f/third-down-rested" --rest 0 --transpose 0 --bell 2
+  text='version: 1 -> 3\nbell 1: transposition 12 -> 5, sounding key 74 -> 67\nbell 1: rest 0 -> 9\nnote 1: key 74 -> 67\n'
+  writes "$1" "$f/both-rested" "${text}due times: 2 moved by 10\nbytes: 50 -> 55\n" "$p" --due 10 --bell 1 --rest 9 --follow --transpose 5
+  text='version: 1 -> 3\nbell 0: rest 0 -> 1\nbytes: 43 -> 46\nbefore: accepted\nafter: refused, number 14, stroke 1\n'
+  edits "$1" 0 "$text" '' "$f/twice-rested" "$f/twice" --bell 0 --rest 1
+  text='bell 0: rest 1 -> 0\nbytes: 46, 1 changed\nbefore: refused, number 14, stroke 1\nafter: accepted\n'
+  edits "$1" 0 "$text" '' "$f/twice-restless" "$f/twice-rested" --bell 0 --rest 0
+  writes "$1" "$f/twice-later" 'version: 1 -> 3\nbell 0: rest 0 -> 1\ndue times: 2 moved by 1\nbytes: 43 -> 46\n' "$f/twice" --bell 0 --rest 1 --due 1
+  text='version: 1 -> 3\nbell 2: rest 0 -> 40\nbytes: 407 -> 424\nbefore: accepted\nafter: refused, number 14, stroke 19\n'
+  edits "$1" 0 "$text" '' "$f/etude-rested" "$etude" --bell 2 --rest 40
+  writes "$1" "$heavy" 'bytes: 424, 0 changed\n' "$heavy" --bell 2 --rest 40
+  writes "$1" "$f/heavy-restless" 'bell 2: rest 40 -> 0\nbytes: 424, 1 changed\n' "$heavy" --bell 2 --rest 0
 }
 
 # edit_all HOW: what is written. Most of it is undone by its opposite. Last a new file, and that file in place.
@@ -304,6 +399,7 @@ edit_all() {
   writes "$1" "$f/two-follow" "$text" "$f/two" --bell 0 --transpose 5 --follow --shift 3
   text='bell 0: transposition 0 -> 24, sounding key 95 -> 119\nnote 0: key 119 -> 143\nbytes: 30, 2 changed\n'
   writes "$1" "$f/far-down-up" "$text" "$f/far-down" --bell 0 --transpose 24 --follow
+  edit_rests "$1"
   rm "$out"
   text='due times: 2 moved by 150\nbytes: 50, 2 changed\nbefore: accepted\nafter: accepted\n'
   runs "$1: editor, a new file" 0 "$text" '' "${editor[@]}" "$p" "$out" --due 150
@@ -311,6 +407,36 @@ edit_all() {
   text='due times: 2 moved by -150\nbytes: 50, 2 changed\nbefore: accepted\nafter: accepted\n'
   runs "$1: editor, in place" 0 "$text" '' "${editor[@]}" "$out" "$out" --due -150
   same "$1: editor, in place: OUT" "$p" "$out"
+}
+
+out_of_range='the transposition, the key that it sounds for, or the rest is out of range'
+
+# refuse_rests HOW: rests that are refused, and what else is refused in version 3, with bells of nine bytes.
+refuse_rests() {
+  local f=$folder number
+  edits "$1" 1 '' "editor: $f/rest: refused, number 6, byte 17\n" "$f/kept" "$f/rest" --bell 1 --rest 0
+  for number in 5001 5002 65535 65536 65537 70536 2147483648 4294967295; do
+    refuses "$1" "6, byte 8: bell 0: $out_of_range" "$p" --bell 0 --rest "$number"
+    refuses "$1" "6, byte 26: bell 2: $out_of_range" "$f/third" --bell 2 --rest "$number"
+    refuses "$1" "6, byte 17: bell 1: $out_of_range" "$f/shifted" --bell 1 --rest "$number"
+    refuses "$1" "6, byte 17: bell 1: $out_of_range" "$f/rested" --bell 1 --rest "$number"
+    refuses "$1" "6, byte 71: bell 7: $out_of_range" "$heavy" --bell 7 --rest "$number" --due 3600000
+    refuses "$1" "6, byte 26: bell 2: $out_of_range" "$f/third" --bell 2 --transpose 10 --rest "$number" # also the key of bell 1
+    refuses "$1" '19, byte 6: the shift is out of range' "$f/rested" --bell 0 --rest "$number" --shift 25
+  done
+  refuses "$1" "6, byte 26: bell 2: $out_of_range" "$f/third" --bell 2 --transpose 25 --rest 40
+  refuses "$1" "6, byte 26: bell 2: $out_of_range" "$f/third-rested" --bell 2 --transpose 25 --rest 0
+  refuses "$1" '7, byte 26: bell 2: an earlier bell sounds for the same key' "$f/third" --bell 2 --transpose 10 --rest 40
+  refuses "$1" '7, byte 26: bell 2: an earlier bell sounds for the same key' "$f/third-rested" --bell 0 --transpose 4
+  refuses "$1" '10, byte 36: note 0: no bell sounds for its key any more' "$f/third-rested" --bell 0 --transpose 1
+  refuses "$1" '10, byte 50: note 1: no bell sounds for its key any more' "$f/third-rested" --bell 1 --transpose 1
+  refuses "$1" '11, byte 36: note 0: the due time is out of range' "$f/third-rested" --due -8
+  refuses "$1" '11, byte 50: note 1: the due time is out of range' "$f/third-rested" --due -7
+  refuses "$1" '10, byte 123: note 3: no bell sounds for its key any more' "$heavy" --bell 4 --transpose -1
+  refuses "$1" '10, byte 123: note 3: no bell sounds for its key any more' "$etude" --bell 4 --transpose -1 --rest 40
+  refuses "$1" '10, byte 207: note 9: no bell sounds for its key any more' "$heavy" --bell 7 --transpose 11
+  refuses "$1" '10, byte 81: note 0: no bell sounds for its key any more' "$heavy" --shift -4
+  refuses "$1" '11, byte 410: note 23: the due time is out of range' "$heavy" --due 3597441
 }
 
 # edit_refused HOW: what is refused, in IN or as OUT, which stays as it is, or is not made.
@@ -322,9 +448,10 @@ edit_refused() {
   edits "$1" 1 '' "editor: $f/remains: refused, number 3, byte 50\n" "$f/kept" "$f/remains" --bell 0 --transpose 0
   edits "$1" 1 '' "editor: $f/shift: refused, number 19, byte 6\n" "$f/kept" "$f/shift" --shift 0
   for number in 25 -25 127 -128 128 254 -129 256 2147483647 -2147483648; do
-    refuses "$1" '6, byte 21: bell 2: the transposition, or the key that it sounds for, is out of range' "$f/third" --bell 2 --transpose "$number"
-    refuses "$1" '6, byte 7: bell 0: the transposition, or the key that it sounds for, is out of range' "$p" --bell 0 --transpose "$number" --follow
-    refuses "$1" '6, byte 15: bell 1: the transposition, or the key that it sounds for, is out of range' "$f/shifted" --bell 1 --transpose "$number" --follow
+    refuses "$1" "6, byte 21: bell 2: $out_of_range" "$f/third" --bell 2 --transpose "$number"
+    refuses "$1" "6, byte 7: bell 0: $out_of_range" "$p" --bell 0 --transpose "$number" --follow
+    refuses "$1" "6, byte 15: bell 1: $out_of_range" "$f/shifted" --bell 1 --transpose "$number" --follow
+    refuses "$1" "6, byte 17: bell 1: $out_of_range" "$f/rested" --bell 1 --transpose "$number" --follow
     refuses "$1" '19, byte 6: the shift is out of range' "$f/two" --shift "$number"
     refuses "$1" '19, byte 6: the shift is out of range' "$down" --shift "$number" --bell 0 --transpose 25 --follow --due 3600000
   done
@@ -350,6 +477,7 @@ edit_refused() {
   refuses "$1" '11, byte 22: note 0: the due time is out of range' "$p" --bell 0 --transpose 1 --due 3599994
   refuses "$1" '10, byte 37: note 1: no bell sounds for its key any more' "$f/shifted" --bell 1 --transpose 1 --due -6
   refuses "$1" '11, byte 37: note 1: the due time is out of range' "$f/shifted" --bell 1 --transpose 1 --due -7
+  refuse_rests "$1"
   rm "$out"
   runs "$1: editor, no new file" 1 '' "editor: $out: refused, number 11, byte 22: note 0: the due time is out of range\n" "${editor[@]}" "$p" "$out" --due -8
   [ ! -e "$out" ] || status=1
@@ -359,21 +487,25 @@ edit_refused() {
 # edit_trouble HOW: files that cannot be read or written, a bell that is not there, and wrong usage.
 edit_trouble() {
   local f=$folder options list usage
-  usage='usage: editor IN OUT [--bell N --transpose SEMITONES [--follow]] [--shift SEMITONES] [--due MILLISECONDS]'
+  usage='usage: editor IN OUT [--bell N [--transpose SEMITONES [--follow]] [--rest MILLISECONDS]] [--shift SEMITONES] [--due MILLISECONDS]'
   troubles "$1" "editor: $f/missing: No such file or directory" "$f/missing" --due 1
   troubles "$1" "editor: $f: Is a directory" "$f" --due 1
   for options in 2 95 96 4294967295; do
     troubles "$1" "editor: $p: there is no such bell" "$p" --bell "$options" --transpose 0
+    troubles "$1" "editor: $p: there is no such bell" "$p" --bell "$options" --rest 40
   done
   runs "$1: editor, OUT a folder" 2 '' "editor: $f: Is a directory\n" "${editor[@]}" "$p" "$f" --due 1
   runs "$1: editor, OUT nowhere" 2 '' "editor: $f/no/where: No such file or directory\n" "${editor[@]}" "$p" "$f/no/where" --due 1
   runs "$1: editor, OUT a full device" 2 '' 'editor: /dev/full: No space left on device\n' "${editor[@]}" "$p" /dev/full --due 1
   for options in '' - -- +1 1x ' 1' 0x1 1.5 4294967296 -4294967296 9223372036854775808 -99999999999999999999; do
     troubles "$1" "$usage" "$p" --due "$options"
+    troubles "$1" "$usage" "$p" --bell 0 --rest "$options"
   done
   for options in '' '--bell' '--bell 0' '--transpose 0' '--due' '--follow' '--due 1 --follow' '--due 1 2' '--key 1' '--due 1 --bell 0' '--due 1 --help' \
     '--bell -1 --transpose 0' '--bell 4294967296 --transpose 0' '--bell 0 --transpose 2147483648' '--bell 0 --transpose -2147483649' \
-    '--shift' '--shift x' '--shift 1 2' '--shift +1' '--shift 1 --follow' '--shift 1 --bell 0' '--shift 2147483648' '--shift -2147483649'; do
+    '--shift' '--shift x' '--shift 1 2' '--shift +1' '--shift 1 --follow' '--shift 1 --bell 0' '--shift 2147483648' '--shift -2147483649' \
+    '--rest' '--rest 0' '--rest 1' '--bell 0 --rest' '--bell 0 --rest -1' '--bell 0 --rest 1 2' '--bell 0 --rest 4294967296' '--due 1 --rest 1' \
+    '--shift 1 --rest 1' '--transpose 0 --rest 1' '--bell 0 --rest 1 --follow' '--follow --bell 0 --rest 0' '--bell 0 --follow' '--bell 0 --rests 1'; do
     read -ra list <<<"$options"
     troubles "$1" "$usage" "$p" "${list[@]}"
   done
@@ -437,12 +569,38 @@ strokes() {
     printf '%b' "\\x0D\\x$(printf '%02X' $((60 + note % $1)))\\x00\\x00\\x00\\x00\\x00\\x00\\x03\\xE8\\x00\\x36\\xEE\\x80"
   done
 }
+# longest: the longest file of version 1. 96 bells, and 64 strokes, each of which waits for the four before it, or for all where these are fewer; 1822 bytes.
+longest() {
+  local i wait waits
+  printf '\x01\x00\x00\x07\x19\x08\x60'
+  for ((i = 0; i < 96; i++)); do
+    printf '%b' "\\x$(printf '%02X' $((12 + i)))\\x00\\x00\\x01\\x13\\x88\\x$(printf '%02X' "$i")"
+  done
+  printf '\x40'
+  for ((i = 0; i < 64; i++)); do
+    waits=$((i < 4 ? i : 4))
+    printf '%b' "\\x$(printf '%02X' $((13 + waits)))\\x$(printf '%02X' $((107 - i)))\\x00\\x00\\x00\\x00\\x00\\x00\\x00\\x00\\x00\\x36\\xEE\\x80"
+    for ((wait = i - waits; wait < i; wait++)); do
+      printf '%b' "\\x$(printf '%02X' "$wait")"
+    done
+  done
+}
 strokes 1 >"$folder/one-bell"
 strokes 8 >"$folder/eight-bells"
+longest >"$folder/longest"
+with_rests "$folder/one-bell" 0003 0000 0000 0000 0000 0000 0000 0000 >"$folder/one-bell-rested"
+with_rests "$folder/eight-bells" 0001 0002 0003 0004 0005 0006 0007 1388 >"$folder/eight-bells-rested"
+mapfile -t rests < <(printf '1388%.0s\n' {1..96})
+with_rests "$folder/longest" "${rests[@]}" >"$folder/longest-rested"
+bytes=$(wc -c <"$folder/longest-rested")
+verdict "the longest file of version 3 has $bytes bytes, not 2015" $((bytes != 2015))
+if [ -x "$folder/player" ]; then
+  passes 'player on the longest file of version 3' "$folder/player" "$folder/longest-rested" || true
+fi
 for binding in now lazy; do
   if build "tests/host/stack.c builds, $binding" tests/host/stack.c "$folder/stack-$binding" -O2 -pthread "-Wl,-z,$binding"; then
     passes "the stack, $binding" env -u LD_BIND_NOW "$folder/stack-$binding" "$binding" \
-      examples/*.phrase "$folder"/{late,bell,empty,one-bell,eight-bells,shifted,shift} || true
+      examples/*.phrase "$folder"/{late,bell,empty,shifted,shift,rested,rest,twice-rested} "$folder"/{one-bell,eight-bells,longest}{,-rested} || true
     grep '^stack: .* KiB$' "$folder/log" || true
   fi
 done
@@ -567,7 +725,11 @@ if command -v valgrind >/dev/null; then
     plays valgrind 0 "$(cat examples/phrase-p.report)\n" "player: $p: accepted\n" "$p"
     plays valgrind 0 "$(cat examples/etude.report)\n" "player: examples/etude.phrase: accepted\n" examples/etude.phrase
     plays valgrind 0 "$(cat examples/etude-down.report examples/etude.played)\n" "player: $down: accepted\n" "$down" --play examples/etude.playing
+    plays valgrind 0 "$(cat examples/etude-heavy.report examples/etude-heavy.played)\n" "player: $heavy: accepted\n" "$heavy" --play examples/etude.playing
     plays valgrind 1 'refused 19 at 6\n' "player: $folder/shift: refused, number 19, byte 6\n" "$folder/shift" --play "$folder/playing"
+    plays valgrind 1 'refused 6 at 17\n' "player: $folder/rest: refused, number 6, byte 17\n" "$folder/rest" --play "$folder/playing"
+    plays valgrind 1 'refused 14 stroke 1 ends 5..7\nstroke 0 start 0 end 3\nstroke 1 start 4 end 6\n' \
+      "player: $folder/twice-rested: refused, number 14, stroke 1\n" "$folder/twice-rested" --play "$folder/playing-twice"
     plays valgrind 1 'refused 13 level 1\n' "player: $p: refused, number 13, level 1\n" "$p" 31
     plays valgrind 1 'refused 14 stroke 0 ends 6..7\n' "player: $folder/late: refused, number 14, stroke 0\n" "$folder/late"
     plays valgrind 1 'refused 2 at 0\n' "player: $folder/empty: refused, number 2, byte 0\n" "$folder/empty" 0
@@ -585,6 +747,7 @@ if command -v valgrind >/dev/null; then
     edits valgrind 1 '' "editor: $folder/bell: refused, number 6, byte 7\n" "$folder/kept" "$folder/bell" --due 1
     refuses valgrind '10, byte 190: note 9: no bell sounds for its key any more' "$etude" --bell 7 --transpose 11
     refuses valgrind '19, byte 6: the shift is out of range' "$down" --shift 25
+    refuses valgrind "6, byte 26: bell 2: $out_of_range" "$heavy" --bell 2 --rest 65537
     troubles valgrind "editor: $p: there is no such bell" "$p" --bell 2 --transpose 0
   fi
   for test in buffers edits playings names; do
@@ -629,6 +792,13 @@ int main()
                  && phrase_read(shifted, sizeof shifted, &read) == 0 && phrase_semitones(read.shift) == -4 && phrase_check(shifted, sizeof shifted) == 0;
     read.version = 1;
     moved = moved && phrase_refusal(phrase_write(&read, again, 50)) == PHRASE_SHIFT;
+    read.version = 3;
+    read.bells[0].rest = 5000;
+    const uint8_t rested[] = {0x03, 0, 0, 0, 13, 1, 252, 1, 62, 254, 0, 1, 0, 1, 19, 136, 0, 0};
+    bool rests = phrase_write(&read, again, 50) == sizeof rested && std::equal(rested, rested + sizeof rested, again)
+                 && phrase_read(rested, sizeof rested, &read) == 0 && read.bells[0].rest == 5000 && phrase_check(rested, sizeof rested) == 0;
+    read.version = 2;
+    rests = rests && phrase_refusal(phrase_write(&read, again, 50)) == PHRASE_BELL_FIELD;
     const uint8_t playing[] = {0x01, 0, 0, 0, 0};
     uint32_t starts[PHRASE_MOST_NOTES], ends[PHRASE_MOST_NOTES];
     bool played = phrase_play(due, sizeof due, playing, sizeof playing, starts, ends) == 0 && std::count(starts, starts + PHRASE_MOST_NOTES, 0u) == 64
@@ -636,7 +806,7 @@ int main()
                   && phrase_refusal(phrase_play(due, sizeof due, playing, 4, starts, ends)) == PHRASE_PLAYING;
     const std::vector<uint8_t> none;
     bool empty = phrase_check(none.empty() ? file : none.data(), none.size()) == PHRASE_COUNT * UINT64_C(4294967296);
-    return refused && same && written && unread && edited && moved && played && empty ? 0 : 1;
+    return refused && same && written && unread && edited && moved && rests && played && empty ? 0 : 1;
 }
 END
   if passes 'phrase.h builds as C++' g++ -std=c++11 -Wall -Wextra -Wpedantic -Werror -I host "$folder/host.cpp" "$library" "${libraries[@]}" \

@@ -1,7 +1,7 @@
 #!/usr/bin/env bash
-# Runs the program phrasecheck on every example of document 01 that it can show, on those of version 2 (request 104), on examples/ and at the limits of its
-# table and its input, and compares what it prints byte by byte. PHRASECHECK names another program than target/bin/phrasecheck, which `rt check phrasecheck`
-# builds.
+# Runs the program phrasecheck on every example of document 01 that it can show, on those of version 2 (request 104) and version 3 (request 106), on examples/
+# and at the limits of its table and its input, and compares what it prints byte by byte. PHRASECHECK names another program than target/bin/phrasecheck, which
+# `rt check phrasecheck` builds.
 set -euo pipefail
 cd "$(dirname "$0")/.."
 program=${PHRASECHECK:-target/bin/phrasecheck}
@@ -90,7 +90,7 @@ shows() {
 
 # ---- The examples that are kept as files ----
 
-for example in phrase-p etude etude-down; do
+for example in phrase-p etude etude-down etude-heavy; do
   bytes "$(cat "examples/$example.hex")" >"$folder/in"
   compare "examples/$example.phrase is made of $example.hex" "$folder/in" "examples/$example.phrase"
   prints "examples/$example.phrase" "examples/$example.phrase" "examples/$example.report"
@@ -144,7 +144,7 @@ shows 'P shifted' "$S" \
   'stroke 1 key D5 bell 1 ends 4..6 response 4..6 due 6' \
   'accepted strokes 2 states 4 hold 6'
 shows 'version 0' "$(with "$P" 0 00)" 'refused 1 at 0'
-shows 'version 3' "$(with "$S" 0 03)" 'refused 1 at 0'
+shows 'version 4' "$(with "$S" 0 04)" 'refused 1 at 0'
 shows 'version 2, row 2' '02 00 00' 'refused 2 at 0'
 shows 'version 2, no m' '02 00000000' 'refused 3 at 5'
 shows 'version 2, row 4' '02 00000003 00 19 00' 'refused 4 at 5'
@@ -171,17 +171,165 @@ shows 'version 2, note 1, all three' "$(with "$S" 4 2F 37 0E 38 42 42 01) 01" 'r
 shows 'version 2, row 14' "$(with "$S" 36 06)" 'refused 14 stroke 0 ends 6..7'
 shows 'version 2, bytes remain' "$(with "$S" 4 2F) 00" 'refused 3 at 51'
 
-# Row 13 with 16,384 words: on one driver any of K strokes may go first, so level 1 has K states. There is room for 62 with K = 64, for 63 with K = 63.
+# ---- Version 3: P shifted, with rests of 7 and 5000, which do not matter, for no bell is struck twice. 8 + 2 * 9 + 1 + 2 * 14 = 55 bytes: bells at 8 and 17,
+# their rests at 14 and 23, the stroke count at 26, notes at 27 and 41 ----
+
+R='03 00000032 01 FC 02 3C0000020002 0007 01 3E0C00040004 1388 02 02 0D 40 00000000 00000005 00000007 0D 4E 00000000 00000000 00000006'
+
+shows 'P rested' "$R" \
+  'stroke 0 key C4 bell 0 ends 2..7 response 2..7 due 7' \
+  'stroke 1 key D5 bell 1 ends 4..6 response 4..6 due 6' \
+  'accepted strokes 2 states 4 hold 6'
+shows 'P rested as version 4' "$(with "$R" 0 04)" 'refused 1 at 0'
+shows 'P rested as version 0' "$(with "$R" 0 00)" 'refused 1 at 0'
+shows 'version 3, row 2' '03 00 00' 'refused 2 at 0'
+shows 'version 3, a count one too large' "$(with "$R" 4 33)" 'refused 2 at 0'
+shows 'version 3, no m' '03 00000000' 'refused 3 at 5'
+shows 'version 3, row 4' '03 00000003 00 19 00' 'refused 4 at 5'
+shows 'version 3, no shift' '03 00000001 01' 'refused 3 at 6'
+shows 'version 3, shift 25' "$(with "$R" 6 19)" 'refused 19 at 6'
+shows 'version 3, shift -25, no bells' '03 00000003 01 E7 00' 'refused 19 at 6'
+shows 'version 3, no bell count' '03 00000002 01 00' 'refused 3 at 7'
+shows 'version 3, row 5' '03 00000003 01 00 00' 'refused 5 at 7'
+shows 'version 3, 97 bells' '03 00000003 01 00 61' 'refused 5 at 7'
+shows 'version 3, cut before the rest' '03 00000009 01 FC 01 3C0000020002' 'refused 3 at 8'
+shows 'version 3, cut in the rest' '03 0000000A 01 FC 01 3C0000020002 00' 'refused 3 at 8'
+shows 'version 3, cut after the rest' '03 0000000B 01 FC 01 3C0000020002 0007' 'refused 3 at 8'
+shows 'version 3, cut after the bell' '03 0000000C 01 FC 01 3C0000020002 0007 01' 'refused 3 at 17'
+shows 'version 3, bell 1 cut in the rest' '03 00000013 01 FC 02 3C0000020002 0007 01 3E0C00040004 13' 'refused 3 at 17'
+shows 'version 3, row 6' "$(with "$R" 8 0B)" 'refused 6 at 8'
+shows 'version 3, row 6, bell 1' "$(with "$R" 17 78)" 'refused 6 at 17'
+for rest in '13 89' '14 00' '27 10' '80 00' 'FF FF'; do
+  shows "rest $rest of bell 0" "$(with "$R" 14 "${rest% *}" 15 "${rest#* }")" 'refused 6 at 8'
+  shows "rest $rest of bell 1" "$(with "$R" 23 "${rest% *}" 24 "${rest#* }")" 'refused 6 at 17'
+done
+shows 'version 3, row 7' "$(with "$R" 18 FE)" 'refused 7 at 17'
+shows 'version 3, row 7, and a rest of 5001' "$(with "$R" 18 FE 24 89)" 'refused 6 at 17'
+shows 'version 3, row 7, and a rest of 5127 of bell 0' "$(with "$R" 14 14 18 FE)" 'refused 6 at 8'
+shows 'version 3, row 8' "$(with "$R" 26 41)" 'refused 8 at 26'
+shows 'version 3, row 9' "$(with "$R" 27 0C)" 'refused 9 at 27'
+shows 'version 3, row 10' "$(with "$R" 42 42)" 'refused 10 at 41'
+shows 'version 3, row 10, the shift' "$(with "$R" 6 FB)" 'refused 10 at 27'
+shows 'version 3, row 11' "$(with "$R" 32 06)" 'refused 11 at 27'
+shows 'version 3, row 12' "$(with "$R" 4 33 41 0E) 01" 'refused 12 at 41'
+shows 'version 3, note 0, 10 and 11' "$(with "$R" 28 3C 32 06)" 'refused 11 at 27'
+shows 'version 3, note 1, 10 and 12' "$(with "$R" 4 33 41 0E 42 42) 01" 'refused 10 at 41'
+shows 'version 3, row 14' "$(with "$R" 40 06)" 'refused 14 stroke 0 ends 6..7'
+shows 'version 3, bytes remain' "$(with "$R" 4 33) 00" 'refused 3 at 55'
+
+# A version with the bells of another. As version 3, P has a shift of 2 and 60 (3C) bells, the first of key 0; in P shifted the first bell rests for 318 (013E)
+# and has rank 12, and the next one has key 0. As version 2, P rested has a first bell of rank 0 (the rest's first byte), and the next one has key 7 (its
+# second); as version 1 it has 252 (FC) bells.
+shows 'P as version 3' "$(with "$P" 0 03)" 'refused 6 at 8'
+shows 'P shifted as version 3' "$(with "$S" 0 03)" 'refused 6 at 17'
+shows 'P rested as version 2' "$(with "$R" 0 02)" 'refused 6 at 15'
+shows 'P rested as version 1' "$(with "$R" 0 01)" 'refused 5 at 6'
+# One bell, without notes. As version 2, the second byte of the rest is the number of strokes: of 7, the first has a length of 1; after none, two bytes remain.
+# As version 3, the bell passes the end.
+shows 'a bell of nine bytes as version 2' '02 0000000D 01 00 01 3C0000020002 0007 01 00' 'refused 9 at 16'
+shows 'a bell of nine bytes as version 2, rest 0' '02 0000000D 01 00 01 3C0000020002 0000 01 00' 'refused 3 at 16'
+shows 'a bell of seven bytes as version 3' '03 0000000B 01 00 01 3C0000020002 01 00' 'refused 3 at 8'
+
+# ---- Rests that matter ----
+
+# Two strokes of a bell that holds for 2..3 and rests for 5, on one driver. The first ends at 2..3, so the second is ready at 7..8, and ends at 9..11.
+T='03 00000029 01 00 01 3C00 0002 0003 0005 01 02 0D 3C 00000000 00000000 00000003 0D 3C 00000000 00000000 0000000B'
+twice=('stroke 0 key C4 bell 0 ends 2..3 response 2..3 due 3' 'stroke 1 key C4 bell 0 ends 9..11 response 9..11 due 11'
+  'accepted strokes 2 states 3 hold 6')
+shows 'a rest, just in time' "$T" "${twice[@]}"
+shows 'a rest, on two drivers' "$(with "$T" 5 02)" "${twice[@]}"
+shows 'a rest, its stroke listed too' "$(with "$T" 4 2A 32 0E) 00" "${twice[@]}"
+shows 'a rest, a millisecond late' "$(with "$T" 45 0A)" 'refused 14 stroke 1 ends 9..11'
+shows 'a rest, a millisecond longer' "$(with "$T" 15 06)" 'refused 14 stroke 1 ends 10..12'
+shows 'a rest, a millisecond longer, its stroke listed too' "$(with "$T" 4 2A 15 06 32 0E) 00" 'refused 14 stroke 1 ends 10..12'
+shows 'the longest rest' "$(with "$T" 14 13 15 88)" 'refused 14 stroke 1 ends 5004..5006'
+shows 'the longest rest, in time' "$(with "$T" 14 13 15 88 44 13 45 8E)" \
+  'stroke 0 key C4 bell 0 ends 2..3 response 2..3 due 3' \
+  'stroke 1 key C4 bell 0 ends 5004..5006 response 5004..5006 due 5006' \
+  'accepted strokes 2 states 3 hold 6'
+shows 'a rest of 0' "$(with "$T" 15 00)" \
+  'stroke 0 key C4 bell 0 ends 2..3 response 2..3 due 3' \
+  'stroke 1 key C4 bell 0 ends 4..6 response 4..6 due 11' \
+  'accepted strokes 2 states 3 hold 6'
+# Called at 8..8, when the rest is over in any case, it ends at 10..11; at 7..7, it may have to wait for a millisecond, so it ends at 9..11.
+shows 'a rest that is over' "$(with "$T" 37 08 41 08)" \
+  'stroke 0 key C4 bell 0 ends 2..3 response 2..3 due 3' \
+  'stroke 1 key C4 bell 0 ends 10..11 response 2..3 due 11' \
+  'accepted strokes 2 states 3 hold 6'
+shows 'a rest that is nearly over' "$(with "$T" 37 07 41 07)" \
+  'stroke 0 key C4 bell 0 ends 2..3 response 2..3 due 3' \
+  'stroke 1 key C4 bell 0 ends 9..11 response 2..4 due 11' \
+  'accepted strokes 2 states 3 hold 6'
+
+# Two strokes of a bell of rank 1 that holds for 2 and rests for 5, and a lesser stroke, of rank 2, that holds for 3..9. At 2 the second is not ready before 7,
+# so the lesser one starts, and ends at 5..11; then the second starts at 7..11. Without the rest the second starts at 2 and the lesser one at 4.
+# The lesser stroke may list the first: then both wait for it, but only the second with its rest, so that thigh is 2 + 5 = 7 all the same.
+L='03 00000040 01 00 02 3C00 0002 0002 0005 01 3E00 0003 0009 0000 02
+  03 0D 3C 00000000 00000000 00000002 0D 3C 00000000 00000000 0000000D 0D 3E 00000000 00000000 0000000B'
+lesser=('stroke 0 key C4 bell 0 ends 2..2 response 2..2 due 2' 'stroke 1 key C4 bell 0 ends 9..13 response 9..13 due 13'
+  'stroke 2 key D4 bell 1 ends 5..11 response 5..11 due 11' 'accepted strokes 3 states 4 hold 13')
+shows 'a lesser stroke between' "$L" "${lesser[@]}"
+shows 'a lesser stroke between, which shares a wait' "$(with "$L" 4 41 55 0E) 00" "${lesser[@]}"
+shows 'a lesser stroke between, its own bell rests' "$(with "$L" 23 13 24 88)" "${lesser[@]}"
+shows 'a lesser stroke between, the second late' "$(with "$L" 54 0C)" 'refused 14 stroke 1 ends 9..13'
+shows 'a lesser stroke between, the second late, which shares a wait' "$(with "$L" 4 41 54 0C 55 0E) 00" 'refused 14 stroke 1 ends 9..13'
+shows 'a lesser stroke after both, for want of a rest' "$(with "$L" 15 00)" 'refused 14 stroke 2 ends 7..13'
+shows 'a lesser stroke after both, in time' "$(with "$L" 15 00 68 0D)" \
+  'stroke 0 key C4 bell 0 ends 2..2 response 2..2 due 2' \
+  'stroke 1 key C4 bell 0 ends 4..4 response 4..4 due 13' \
+  'stroke 2 key D4 bell 1 ends 7..13 response 7..13 due 13' \
+  'accepted strokes 3 states 4 hold 13'
+
+# The lesser stroke holds for 3 and is called at 0..20. When the first has ended, at 2, the second starts at 7 or the lesser one at 2..6, before 7. After the
+# second, the driver is free at 9, and the lesser one starts at 9..20 and ends at 12..23; after the lesser one it is free at 5..9, and the second starts at 7..9
+# and ends at 9..11. That is two states in level 2, and two in level 3, for 12..23 and 9..11 do not meet. It may list the first here, too.
+E='03 00000040 01 00 02 3C00 0002 0002 0005 01 3E00 0003 0003 0000 02
+  03 0D 3C 00000000 00000000 00000002 0D 3C 00000000 00000000 0000000B 0D 3E 00000000 00000014 00000017'
+either=('stroke 0 key C4 bell 0 ends 2..2 response 2..2 due 2' 'stroke 1 key C4 bell 0 ends 9..11 response 9..11 due 11'
+  'stroke 2 key D4 bell 1 ends 5..23 response 5..23 due 23' 'accepted strokes 3 states 6 hold 7')
+shows 'either order' "$E" "${either[@]}"
+shows 'either order, which shares a wait' "$(with "$E" 4 41 55 0E) 00" "${either[@]}"
+# The second stroke's edges are 9..9 and then 9..11.
+shows 'either order, the second late' "$(with "$E" 54 0A)" 'refused 14 stroke 1 ends 9..11'
+
+# Shared the other way: a stroke of rank 1 lists the first, which holds for 2..4, and has no rest of its own; the second, of rank 2, waits for the first and its
+# rest of 1. So that wait is left out of what holds the second back: thigh is 0, when the other one is called. That one starts at 2..4 and ends at 5..7, the
+# second starts at 5..7. Were it not left out, the second might start at 3, before 4.
+G='03 00000041 01 00 02 3C00 0002 0004 0001 02 3E00 0003 0003 0000 01
+  03 0D 3C 00000000 00000000 00000004 0D 3C 00000000 00000000 0000000B 0E 3E 00000000 00000000 00000007 00'
+greater=('stroke 0 key C4 bell 0 ends 2..4 response 2..4 due 4' 'stroke 1 key C4 bell 0 ends 7..11 response 7..11 due 11'
+  'stroke 2 key D4 bell 1 ends 5..7 response 5..7 due 7' 'accepted strokes 3 states 4 hold 11')
+shows 'a greater stroke that shares a wait' "$G" "${greater[@]}"
+shows 'a greater stroke that shares a wait, no rest' "$(with "$G" 15 00)" "${greater[@]}"
+shows 'a greater stroke that shares a wait, its own bell rests' "$(with "$G" 24 09)" "${greater[@]}"
+shows 'a greater stroke that shares a wait, a long rest' "$(with "$G" 15 09)" 'refused 14 stroke 1 ends 13..17'
+
+# On two drivers: a bell of rank 1 that holds for 2..3 and rests for 4, twice, and one of rank 2 that holds for 10. That one starts at 0 on the other driver,
+# and the second stroke is ready at 6..7.
+shows 'a rest beside another driver' '03 00000040 02 00 02 3C00 0002 0003 0004 01 3E00 000A 000A 0000 02
+  03 0D 3C 00000000 00000000 00000003 0D 3C 00000000 00000000 0000000A 0D 3E 00000000 00000000 0000000A' \
+  'stroke 0 key C4 bell 0 ends 2..3 response 2..3 due 3' \
+  'stroke 1 key C4 bell 0 ends 8..10 response 8..10 due 10' \
+  'stroke 2 key D4 bell 1 ends 10..10 response 10..10 due 10' \
+  'accepted strokes 3 states 4 hold 16'
+
+# Row 13 with 16,384 words: on one driver any of K strokes may go first, so level 1 has K states. There is room for 62 with K = 64, for 63 with K = 63. In
+# version 3 each bell rests for 5000 after its only stroke.
 all_go_first() {
-  local bells='' notes='' key
+  local bells='' notes='' key shift='' rest=''
+  if [ "${2:-01}" = 03 ]; then
+    shift=00 rest=1388
+  fi
   for ((key = 12; key < 12 + $1; key++)); do
-    bells+=$(printf '%02X 00 0001 0001 01 ' "$key")
+    bells+=$(printf '%02X 00 0001 0001 %s 01 ' "$key" "$rest")
     notes+=$(printf '0D %02X 00000000 00000064 0036EE80 ' "$key")
   done
-  counted "$(printf '01 %02X %s %02X %s' "$1" "$bells" "$1" "$notes")"
+  counted "$(printf '01 %s %02X %s %02X %s' "$shift" "$1" "$bells" "$1" "$notes")" "${2:-01}"
 }
-shows 'row 13, 64 strokes' "$(all_go_first 64)" 'refused 13 level 1'
-shows 'row 13, 63 strokes' "$(all_go_first 63)" 'refused 13 level 2'
+for version in 01 03; do
+  shows "version $version, row 13, 64 strokes" "$(all_go_first 64 "$version")" 'refused 13 level 1'
+  shows "version $version, row 13, 63 strokes" "$(all_go_first 63 "$version")" 'refused 13 level 2'
+done
 
 # All of 16,384 words, and no more. Three bells of one rank, hold 1, whose strokes are called 0..1000, may go in any order that keeps each bell's own, so
 # there is a state for each choice of three counts. With 44, 15 and 3 strokes these are 45 * 16 * 4, at most 64 in a level, first where the counts make 18;

@@ -33,6 +33,8 @@ pub struct Run<'a> {
     by_rank: Vec<usize>,
     next_t: u64,
     state: State,
+    /// f of each stroke that has started, done or not; a rest begins there.
+    ends: Vec<u64>,
 }
 
 impl<'a> Run<'a> {
@@ -49,6 +51,7 @@ impl<'a> Run<'a> {
                 strokes: vec![Status::Waiting; count],
                 free: phrase.drivers,
             },
+            ends: vec![0; count],
         }
     }
 
@@ -71,7 +74,8 @@ impl<'a> Run<'a> {
             let Some(first) = self.by_rank.iter().copied().find(|&i| self.is_ready(i, t)) else {
                 break;
             };
-            self.state.strokes[first] = Status::Holding(t + self.scenario.holds[first]);
+            self.ends[first] = t + self.scenario.holds[first];
+            self.state.strokes[first] = Status::Holding(self.ends[first]);
             self.state.free -= 1;
             starting.push(first);
         }
@@ -79,12 +83,12 @@ impl<'a> Run<'a> {
     }
 
     fn is_ready(&self, i: usize, t: u64) -> bool {
+        let stroke = &self.phrase.strokes[i];
+        let has_rested = |wait: usize| self.ends[wait] + stroke.rest_after(wait) <= t;
         self.state.strokes[i] == Status::Waiting
             && self.scenario.calls[i] <= t
-            && self.phrase.strokes[i]
-                .waits
-                .iter()
-                .all(|&wait| self.state.strokes[wait] == Status::Done)
+            && (stroke.waits.iter())
+                .all(|&wait| self.state.strokes[wait] == Status::Done && has_rested(wait))
     }
 }
 
@@ -126,13 +130,14 @@ pub fn states(phrase: &Phrase, scenario: &Scenario, last: u64) -> Vec<State> {
         .collect()
 }
 
-/// How a run breaks demand 3.
+/// How a run breaks demand 3. Unrested: the second starts less than their bell's rest after the first ended.
 #[derive(Clone, Copy, Debug, PartialEq, Eq)]
 pub enum Breach {
     Starts { stroke: usize, times: usize },
     OutsideEnds { stroke: usize, end: u64 },
     AfterDue { stroke: usize, end: u64 },
     Overlap { first: usize, second: usize },
+    Unrested { first: usize, second: usize },
     NotQuiet { stroke: usize },
 }
 
@@ -159,16 +164,26 @@ pub fn demand_3(phrase: &Phrase, ends: &[Range], scenario: &Scenario) -> Result<
             return Err(Breach::AfterDue { stroke, end });
         }
     }
-    for (position, a) in starts.iter().enumerate() {
-        for b in &starts[..position] {
-            let same_bell = phrase.strokes[a.stroke].bell == phrase.strokes[b.stroke].bell;
-            if same_bell && a.start.max(b.start) < a.end.min(b.end) {
-                return Err(Breach::Overlap {
-                    first: b.stroke,
-                    second: a.stroke,
-                });
-            }
+    for (position, second) in starts.iter().enumerate() {
+        for first in &starts[..position] {
+            keep_apart(phrase, first, second)?;
         }
+    }
+    Ok(())
+}
+
+/// Holds two strokes, in the order of their starts, to what is asked of those of one bell.
+fn keep_apart(phrase: &Phrase, a: &Start, b: &Start) -> Result<(), Breach> {
+    let bell = phrase.strokes[a.stroke].bell;
+    if bell != phrase.strokes[b.stroke].bell {
+        return Ok(());
+    }
+    let (first, second) = (a.stroke, b.stroke);
+    if a.start.max(b.start) < a.end.min(b.end) {
+        return Err(Breach::Overlap { first, second });
+    }
+    if b.start < a.end + phrase.bells[bell].rest {
+        return Err(Breach::Unrested { first, second });
     }
     Ok(())
 }

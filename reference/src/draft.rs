@@ -10,6 +10,8 @@ pub struct DraftBell {
     pub transposition: i8,
     pub ca: u16,
     pub cb: u16,
+    /// Two bytes after cb, as files of version 3 have them.
+    pub rest: Option<u16>,
     pub rank: u8,
 }
 
@@ -43,14 +45,14 @@ pub struct Draft {
     /// Added to the right count of bytes, wrapping.
     pub count_error: u32,
     pub drivers: u8,
-    /// A byte after the driver count, as files of version 2 have it.
+    /// A byte after the driver count, as files have it from version 2 on.
     pub shift: Option<i8>,
     pub bell_count: u8,
     pub bells: Vec<DraftBell>,
     pub stroke_count: u8,
     pub notes: Vec<DraftNote>,
     /// Bytes after the last note.
-    pub rest: Vec<u8>,
+    pub remaining: Vec<u8>,
 }
 
 impl Draft {
@@ -65,20 +67,35 @@ impl Draft {
             bells,
             stroke_count: notes.len() as u8,
             notes,
-            rest: Vec::new(),
+            remaining: Vec::new(),
         }
     }
 
-    /// A draft of version 1 made one of version 2: its keys are written so that with this shift they find the bells that they
-    /// found; none if one of them would be no byte.
+    /// A draft of version 1 made one of version 2, or one of version 3 given another shift than 0: its keys are written so that
+    /// with this shift they find the bells that they found; none if one of them would be no byte.
     pub fn shifted(mut self, shift: i8) -> Option<Draft> {
-        self.version = 2;
+        self.version = self.version.max(2);
         self.shift = Some(shift);
         for note in &mut self.notes {
             let written = i16::from(note.key) - i16::from(shift);
             note.key = u8::try_from(written).ok()?;
         }
         Some(self)
+    }
+
+    /// A draft of version 1 or 2 made one of version 3 with these rests, bell by bell; the same bells are struck.
+    pub fn rested(mut self, mut rest: impl FnMut() -> u16) -> Draft {
+        self.version = 3;
+        self.shift = self.shift.or(Some(0));
+        for bell in &mut self.bells {
+            bell.rest = Some(rest());
+        }
+        self
+    }
+
+    /// What one more bell has for its rest: bytes if the others have them.
+    pub fn another_rest(&self) -> Option<u16> {
+        self.bells.first().and_then(|bell| bell.rest)
     }
 
     pub fn bytes(&self) -> Vec<u8> {
@@ -90,6 +107,7 @@ impl Draft {
             file.extend(bell.transposition.to_be_bytes());
             file.extend(bell.ca.to_be_bytes());
             file.extend(bell.cb.to_be_bytes());
+            file.extend(bell.rest.into_iter().flat_map(u16::to_be_bytes));
             file.push(bell.rank);
         }
         file.push(self.stroke_count);
@@ -101,7 +119,7 @@ impl Draft {
             }
             file.extend(&note.waits);
         }
-        file.extend(&self.rest);
+        file.extend(&self.remaining);
         correct_count(&mut file, self.count_error);
         file
     }
@@ -128,26 +146,24 @@ pub fn correct_count(file: &mut [u8], error: u32) {
 
 impl Draft {
     /// The draft of the file that a phrase would be written as, whatever rules it breaks; none if a field is too wide for
-    /// its bytes, or a shift other than 0 has none.
+    /// its bytes, or a shift or rest other than 0 has none.
     pub fn of(phrase: &EditedPhrase) -> Option<Draft> {
+        let layout = Layout::of(phrase.version.into());
         let bell_fits = |bell: &EditedBell| {
             let bytes = [bell.written, bell.transposition, bell.rank];
-            fit_a_byte(&bytes) && bell.ca.max(bell.cb) <= 65_535
+            let widest_rest = layout.map_or(u32::MAX, |layout| 65_535 * u32::from(layout.has_rest));
+            fit_a_byte(&bytes) && bell.ca.max(bell.cb) <= 65_535 && bell.rest <= widest_rest
         };
         let note_fits = |note: &EditedNote| {
             // The file has the count as a part of the note's length.
             let longest = 255 - 13;
             note.wait_count <= longest && fit_a_byte(&[note.key]) && fit_a_byte(note.waits())
         };
-        let shift_fits = match Layout::of(phrase.version.into()) {
-            Some(Layout { has_shift: false }) => phrase.shift == 0,
-            Some(Layout { has_shift: true }) => fit_a_byte(&[phrase.shift]),
-            // No file of this version is read that far.
-            None => true,
-        };
+        // No file of another version is read as far as its shift or its rests.
+        let widest_shift = layout.map_or(u32::MAX, |layout| 255 * u32::from(layout.has_shift));
         let head = [phrase.version, phrase.drivers, phrase.bell_count];
         let fits = fit_a_byte(&head)
-            && shift_fits
+            && phrase.shift <= widest_shift
             && phrase.bells().iter().all(bell_fits)
             && fit_a_byte(&[phrase.note_count])
             && phrase.notes().iter().all(note_fits);
@@ -157,11 +173,13 @@ impl Draft {
     /// The same with every field cut to its bytes, counts too, or left out if it has none: what a careless writer would make
     /// of the phrase.
     pub fn cut(phrase: &EditedPhrase) -> Draft {
-        let bells = phrase.bells.iter().map(cut_bell);
+        let version = phrase.version as u8;
+        let layout = Layout::of(version.into());
+        let has_shift = layout.is_some_and(|layout| layout.has_shift);
+        let has_rest = layout.is_some_and(|layout| layout.has_rest);
+        let bells = phrase.bells.iter().map(|bell| cut_bell(bell, has_rest));
         let notes = phrase.notes.iter().map(cut_note);
         let (bell_count, stroke_count) = (phrase.bell_count as u8, phrase.note_count as u8);
-        let version = phrase.version as u8;
-        let has_shift = Layout::of(version.into()).is_some_and(|layout| layout.has_shift);
         Draft {
             version,
             count_error: 0,
@@ -171,7 +189,7 @@ impl Draft {
             bells: bells.take(bell_count.into()).collect(),
             stroke_count,
             notes: notes.take(stroke_count.into()).collect(),
-            rest: Vec::new(),
+            remaining: Vec::new(),
         }
     }
 }
@@ -180,12 +198,13 @@ fn fit_a_byte(values: &[u32]) -> bool {
     values.iter().all(|&value| value <= 255)
 }
 
-fn cut_bell(bell: &EditedBell) -> DraftBell {
+fn cut_bell(bell: &EditedBell, has_rest: bool) -> DraftBell {
     DraftBell {
         written: bell.written as u8,
         transposition: bell.transposition as i8,
         ca: bell.ca as u16,
         cb: bell.cb as u16,
+        rest: has_rest.then_some(bell.rest as u16),
         rank: bell.rank as u8,
     }
 }
@@ -231,6 +250,7 @@ impl From<&DraftBell> for EditedBell {
             transposition: u32::from(bell.transposition as u8),
             ca: bell.ca.into(),
             cb: bell.cb.into(),
+            rest: bell.rest.unwrap_or(0).into(),
             rank: bell.rank.into(),
         }
     }

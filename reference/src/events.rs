@@ -12,16 +12,19 @@ use crate::reading::Phrase;
 enum Event {
     Call(usize),
     End(usize),
+    /// This stroke's bell has rested since its earlier stroke.
+    Rested(usize),
 }
 
 struct Run<'a> {
     phrase: &'a Phrase,
     scenario: &'a Scenario,
-    /// Calls and ends to come, the soonest first.
+    /// Calls, ends and ends of rests to come, the soonest first.
     events: BinaryHeap<Reverse<(u64, Event)>>,
     /// Ready strokes, each after its rank, the first of them first.
     ready: BinaryHeap<Reverse<(u64, usize)>>,
-    /// For each stroke, how much it lacks to be ready: its call, and those of its waits that are not done.
+    /// For each stroke, how much it lacks to be ready: its call, and those of its waits that have not been done for their
+    /// rest.
     lacking: Vec<usize>,
     /// For each stroke, those that wait for it.
     waiting: Vec<Vec<usize>>,
@@ -63,15 +66,15 @@ impl<'a> Run<'a> {
         }
     }
 
-    /// All that happens at t, at which there is an event: the ends and calls first, then the starts.
+    /// All that happens at t, at which there is an event: the events first, then the starts.
     fn step(&mut self, t: u64) {
         while let Some(&Reverse((time, event))) = self.events.peek()
             && time == t
         {
             self.events.pop();
             match event {
-                Event::Call(stroke) => self.supply(stroke),
-                Event::End(stroke) => self.end(stroke),
+                Event::Call(stroke) | Event::Rested(stroke) => self.supply(stroke),
+                Event::End(stroke) => self.end(stroke, t),
             }
         }
         while self.free > 0
@@ -81,10 +84,13 @@ impl<'a> Run<'a> {
         }
     }
 
-    fn end(&mut self, stroke: usize) {
+    fn end(&mut self, stroke: usize, t: u64) {
         self.free += 1;
         for waiting in std::mem::take(&mut self.waiting[stroke]) {
-            self.supply(waiting);
+            match self.phrase.strokes[waiting].rest_after(stroke) {
+                0 => self.supply(waiting),
+                rest => (self.events).push(Reverse((t + rest, Event::Rested(waiting)))),
+            }
         }
     }
 

@@ -14,7 +14,8 @@ pub struct HostBell {
     pub least_hold: u32,
     pub most_hold: u32,
     pub rank: u32,
-    pub spare: u32,
+    /// 0 in versions 1 and 2.
+    pub rest: u32,
     /// Derived.
     pub sounding: u32,
 }
@@ -68,7 +69,7 @@ impl HostPhrase {
         HostPhrase::filled(|| 0)
     }
 
-    /// A phrase to write, with all its rows; what is derived or spare comes from `content`.
+    /// A phrase to write, with all its rows; what is derived comes from `content`.
     pub fn of(phrase: &EditedPhrase, content: impl FnMut() -> u32) -> HostPhrase {
         let mut host = HostPhrase::filled(content);
         host.version = phrase.version;
@@ -85,7 +86,7 @@ impl HostPhrase {
         host
     }
 
-    /// Without what is derived or spare.
+    /// Without what is derived.
     pub fn edited(&self) -> EditedPhrase {
         EditedPhrase {
             version: self.version,
@@ -121,7 +122,7 @@ impl HostBell {
             least_hold: content(),
             most_hold: content(),
             rank: content(),
-            spare: content(),
+            rest: content(),
             sounding: content(),
         }
     }
@@ -132,6 +133,7 @@ impl HostBell {
         self.least_hold = bell.ca;
         self.most_hold = bell.cb;
         self.rank = bell.rank;
+        self.rest = bell.rest;
     }
 
     fn edited(&self) -> EditedBell {
@@ -140,6 +142,7 @@ impl HostBell {
             transposition: self.transposition,
             ca: self.least_hold,
             cb: self.most_hold,
+            rest: self.rest,
             rank: self.rank,
         }
     }

@@ -5,9 +5,11 @@ use crate::draft::{Draft, DraftBell, DraftNote};
 use crate::reading::{Refusal, read};
 use crate::writing::{EditedNote, EditedPhrase, file_length};
 
-/// Where the four notes of the sound phrase begin in version 1; in version 2 one byte further on.
+/// Where the four notes of the sound phrase begin in version 1.
 const NOTES_AT: [u64; 4] = [22, 36, 51, 67];
-/// In version 2 the keys are written so much higher: the shift is -13.
+/// By version, how much further on they begin: after a shift, and after the rests of two bells.
+const FURTHER_ON: [u64; 3] = [0, 1, 5];
+/// From version 2 on the keys are written so much higher: the shift is -13.
 const HIGHER: u32 = 13;
 
 /// A table of so many words has room for one state of 14 in each half, which the sound phrase needs.
@@ -18,12 +20,12 @@ pub const ANSWERS: [usize; 4] = [0, 10, 11, 12];
 
 /// How many of the phrases have each of these answers. A note has 8 wrong keys, 8 wrong times and 8 wrong lists beside
 /// the right ones. All is right once; 10 takes a wrong key, right times and any list, 8 x 9; 11 takes wrong times with
-/// any key and any list, 8 x 9 x 9; 12 takes a wrong list alone, 8. All this 8 times, for 4 notes in 2 versions.
-pub const OF_PHRASES: [u64; 4] = [8, 576, 5_184, 64];
+/// any key and any list, 8 x 9 x 9; 12 takes a wrong list alone, 8. All this 12 times, for 4 notes in 3 versions.
+pub const OF_PHRASES: [u64; 4] = [12, 864, 7_776, 96];
 
 /// The same of those phrases whose fields fit their bytes, so that they have files. Of the wrong keys 4 do, and of the
-/// wrong lists 5: it is 8 times 1, 4 x 6, 8 x 5 x 6, and 5.
-pub const OF_FILES: [u64; 4] = [8, 192, 1_920, 40];
+/// wrong lists 5: it is 12 times 1, 4 x 6, 8 x 5 x 6, and 5.
+pub const OF_FILES: [u64; 4] = [12, 288, 2_880, 60];
 
 /// A note of the sound phrase, with any of its key, its times and its list wrong.
 #[derive(Clone, Copy, Debug)]
@@ -59,15 +61,15 @@ impl TriedNote {
         } else {
             return None;
         };
-        let place = NOTES_AT[self.number] + u64::from(self.version == 2);
+        let place = NOTES_AT[self.number] + FURTHER_ON[self.version as usize - 1];
         Some(Refusal { number, place })
     }
 }
 
-/// Each note of the sound phrase in both versions, with every choice of a key, times and a list.
+/// Each note of the sound phrase in all versions, with every choice of a key, times and a list.
 pub fn tried_notes() -> Vec<TriedNote> {
     let mut all = Vec::new();
-    for (version, higher) in [(1, 0), (2, HIGHER)] {
+    for (version, higher) in [(1, 0), (2, HIGHER), (3, HIGHER)] {
         for (number, right) in sound(version).notes().iter().enumerate() {
             let tried = tried(right, number as u32, higher);
             all.extend(tried.into_iter().map(|note| TriedNote {
@@ -80,13 +82,15 @@ pub fn tried_notes() -> Vec<TriedNote> {
     all
 }
 
-/// The phrase whose notes are tried: it is accepted, each stroke due at its latest end.
+/// The phrase whose notes are tried: it is accepted, each stroke due at its latest end. In version 3 both bells have rested by
+/// the earliest call of their second strokes.
 fn sound(version: u32) -> EditedPhrase {
     let bell = |written, transposition, hold, rank| DraftBell {
         written,
         transposition,
         ca: hold,
         cb: hold,
+        rest: None,
         rank,
     };
     // Sounding for 60 and 74; 62 is only written.
@@ -98,7 +102,10 @@ fn sound(version: u32) -> EditedPhrase {
         DraftNote::new(74, 15, 15, 26, vec![2]),
     ];
     let mut draft = Draft::new(2, bells, notes);
-    if version == 2 {
+    if version == 3 {
+        draft = draft.rested(|| 3);
+    }
+    if version >= 2 {
         let shifted = draft.shifted(-(HIGHER as i8));
         draft = shifted.expect("every key is still a byte");
     }
@@ -133,7 +140,7 @@ fn keys(right: u32, higher: u32) -> [u32; 9] {
         right,
         // Only written.
         62 + higher,
-        // Of no bell; in version 2, the key of bell 1 but for the shift.
+        // Of no bell; from version 2 on, the key of bell 1 but for the shift.
         61 + higher,
         0,
         255,

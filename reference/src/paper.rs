@@ -3,7 +3,8 @@
 //! fails. The walk has its own way, document 01's two comparisons; tests hold one against the other.
 //!
 //! A choice brings what comes before: the candidates (equation 1) and their ready ranges, Rmin and Rmax (equations 2 and
-//! 3). As a state keeps the ends of all started strokes, the paper's EFT* and LFT* of a wait are its E and F there.
+//! 3). As a state keeps the ends of all started strokes, the paper's EFT* and LFT* of a wait are its E and F there. The
+//! paper has no rests; request #106 says what they add.
 //!
 //! Moments are signed: where thigh is 0, a latest start of thigh - 1 is below zero.
 
@@ -60,13 +61,15 @@ pub fn thigh(choice: &Choice) -> Option<i64> {
 }
 
 /// Equation 6, the same for one `x` that goes before: in document 01 the larger of its rb and the F of those of its waits
-/// that are not waits of this one.
+/// that are not waits of this one. By request #106 each F counts with its rest, and so does a shared wait whose rest is
+/// larger for `x`.
 pub fn th(choice: &Choice, x: &Candidate) -> i64 {
-    let waits = &choice.phrase.strokes[choice.candidate.stroke].waits;
+    let i = &choice.phrase.strokes[choice.candidate.stroke];
     let x = &choice.phrase.strokes[x.stroke];
-    let other_waits = x.waits.iter().filter(|wait| !waits.contains(wait));
-    let ends = other_waits.map(|&wait| signed(choice.state.ends[wait].high));
-    signed(x.call.high).max(ends.max().unwrap_or(0))
+    let counts = |wait: usize| !i.waits.contains(&wait) || x.rest_after(wait) > i.rest_after(wait);
+    let counted = x.waits.iter().filter(|&&wait| counts(wait));
+    let rested = counted.map(|&wait| signed(choice.state.ends[wait].high + x.rest_after(wait)));
+    signed(x.call.high).max(rested.max().unwrap_or(0))
 }
 
 /// Equation 7, from when on a driver is certainly free and some candidate certainly ready: twc in document 01.

@@ -1,17 +1,20 @@
 //! Random phrase files from a seed: valid ones of many shapes, ones with calls at 0, damaged ones, and large ones; random
-//! phrases to write; and random playings. All of them but those with calls at 0 are there of version 1 and of version 2.
+//! phrases to write; and random playings. All of them but those with calls at 0 and the widest are there of versions 1, 2
+//! and 3.
 
 mod damaged;
 mod edited;
 mod generator;
 mod large;
 mod played;
+mod rested;
 mod shifted;
 mod valid;
 
 pub use edited::{EditedCase, longest};
 pub use generator::Generator;
 pub use played::PlayedCase;
+pub use rested::small_rested;
 pub use valid::{Shape, TINY, accepted_words, at_zero, draft, tuned};
 
 use crate::check::HOST_WORDS;
@@ -32,6 +35,8 @@ pub const CASES_PER_WIDEST: u64 = 2_000;
 pub const CASES_PER_AT_ZERO: u64 = 4;
 /// For every so many cases of version 1, all of them take one of version 2.
 pub const CASES_PER_SHIFTED: u64 = 4;
+/// And one of version 3.
+pub const CASES_PER_RESTED: u64 = 2;
 
 /// A phrase file and the length of a table to lend for it.
 #[derive(Clone, Debug)]
@@ -40,15 +45,48 @@ pub struct Case {
     pub table_words: usize,
 }
 
-/// Makes a draft of version 1 one of the version wanted.
-type Versioned = fn(&mut Generator, Draft) -> Draft;
+type Change = fn(&mut Generator, Draft) -> Draft;
 
-const VERSION_1: Versioned = |_, draft| draft;
-const VERSION_2: Versioned = shifted::shifted;
+/// Makes a draft of version 1 one of the version wanted, in two steps.
+#[derive(Clone, Copy)]
+struct Versioned {
+    /// Before due times are tuned to the walk, which rests alter.
+    rested: Change,
+    /// At last; the walk stays what it was.
+    shifted: Change,
+}
+
+/// Nothing is drawn for it.
+const UNCHANGED: Change = |_, draft| draft;
+
+const VERSION_1: Versioned = Versioned {
+    rested: UNCHANGED,
+    shifted: UNCHANGED,
+};
+const VERSION_2: Versioned = Versioned {
+    rested: UNCHANGED,
+    shifted: shifted::shifted,
+};
+const VERSION_3: Versioned = Versioned {
+    rested: rested::rested,
+    shifted: shifted::shifted,
+};
+
+impl Versioned {
+    /// Both steps, where nothing is walked in between.
+    fn both(self, random: &mut Generator, draft: Draft) -> Draft {
+        let draft = (self.rested)(random, draft);
+        (self.shifted)(random, draft)
+    }
+}
 
 /// With the same seed and number, a phrase of version 2 is not the one of version 1 once more.
 fn of_shifted_case(seed: u64, number: u64) -> Generator {
     Generator::of_case(seed ^ (1 << 32), number)
+}
+
+fn of_rested_case(seed: u64, number: u64) -> Generator {
+    Generator::of_case(seed ^ (1 << 33), number)
 }
 
 /// The case of this number in the stream of this seed; no other case is needed to make it.
@@ -59,6 +97,11 @@ pub fn case(seed: u64, number: u64) -> Case {
 /// A case of version 2, by number like the others.
 pub fn shifted_case(seed: u64, number: u64) -> Case {
     any(&mut of_shifted_case(seed, number), VERSION_2)
+}
+
+/// A case of version 3, by number like the others.
+pub fn rested_case(seed: u64, number: u64) -> Case {
+    any(&mut of_rested_case(seed, number), VERSION_3)
 }
 
 fn any(random: &mut Generator, versioned: Versioned) -> Case {
@@ -86,6 +129,11 @@ pub fn shifted_edited_case(seed: u64, number: u64) -> EditedCase {
     edited(&mut of_shifted_case(seed, number), VERSION_2)
 }
 
+/// A phrase of version 3 to write, by number like the others.
+pub fn rested_edited_case(seed: u64, number: u64) -> EditedCase {
+    edited(&mut of_rested_case(seed, number), VERSION_3)
+}
+
 /// A phrase file and a playing, by number like the others.
 pub fn played_case(seed: u64, number: u64) -> PlayedCase {
     played(&mut Generator::of_case(seed, number), VERSION_1)
@@ -94,6 +142,11 @@ pub fn played_case(seed: u64, number: u64) -> PlayedCase {
 /// A phrase file of version 2 and a playing, by number like the others.
 pub fn shifted_played_case(seed: u64, number: u64) -> PlayedCase {
     played(&mut of_shifted_case(seed, number), VERSION_2)
+}
+
+/// A phrase file of version 3 and a playing, by number like the others.
+pub fn rested_played_case(seed: u64, number: u64) -> PlayedCase {
+    played(&mut of_rested_case(seed, number), VERSION_3)
 }
 
 /// A case with levels of thousands of states, by number like the others.

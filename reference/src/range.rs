@@ -23,6 +23,11 @@ impl Range {
         Range::new(self.low.min(other.low), self.high.max(other.high))
     }
 
+    /// Both limits so much later.
+    pub fn later(self, by: u64) -> Range {
+        Range::new(self.low + by, self.high + by)
+    }
+
     pub fn contains(self, moment: u64) -> bool {
         self.low <= moment && moment <= self.high
     }

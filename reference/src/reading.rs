@@ -9,12 +9,12 @@ pub const MOST_STROKES: usize = 64;
 pub const MOST_WAITS: usize = 4;
 pub const LATEST_TIME: u64 = 3_600_000;
 pub const LONGEST_HOLD: u64 = 5_000;
+pub const LONGEST_REST: u64 = 5_000;
 pub const LOWEST_KEY: i64 = 12;
 pub const HIGHEST_KEY: i64 = 119;
 pub const WIDEST_TRANSPOSITION: i64 = 24;
 pub const WIDEST_SHIFT: i64 = 24;
 
-pub(crate) const BELL_BYTES: usize = 7;
 /// Key, ra, rb and d; the waited-for numbers follow.
 pub(crate) const NOTE_FIELDS: usize = 13;
 
@@ -41,6 +41,8 @@ pub struct Bell {
     pub key: i64,
     /// ca..cb
     pub hold: Range,
+    /// From the end of a stroke to the start of the next one, at the least.
+    pub rest: u64,
     /// p
     pub rank: u64,
 }
@@ -64,6 +66,21 @@ pub struct Stroke {
     pub waits: Vec<usize>,
     /// The one of them that the note does not list: its bell adds it.
     pub added: Option<usize>,
+    /// The nearest earlier stroke of the same bell, listed or not.
+    pub nearest: Option<usize>,
+    /// The bell's, which counts after that stroke alone.
+    pub rest: u64,
+}
+
+impl Stroke {
+    /// How long a wait must have been done before this stroke is ready.
+    pub fn rest_after(&self, wait: usize) -> u64 {
+        if self.nearest == Some(wait) {
+            self.rest
+        } else {
+            0
+        }
+    }
 }
 
 #[derive(Clone, Debug, PartialEq, Eq)]
@@ -138,10 +155,10 @@ pub fn read(file: &[u8]) -> Result<Phrase, Refusal> {
 
     let mut bells: Vec<Bell> = Vec::new();
     for _ in 0..bell_count {
-        let bell = read_bell(file, at)?;
+        let bell = read_bell(file, at, layout)?;
         require(bells.iter().all(|b| b.key != bell.key), 7, at)?;
         bells.push(bell);
-        at += BELL_BYTES;
+        at += layout.bell_bytes();
     }
 
     let stroke_count = big_endian(bytes_at(file, at, 1)?);
@@ -171,18 +188,22 @@ fn read_shift(file: &[u8], at: usize) -> Result<i64, Refusal> {
     Ok(shift)
 }
 
-fn read_bell(file: &[u8], first: usize) -> Result<Bell, Refusal> {
-    let record = bytes_at(file, first, BELL_BYTES)?;
+fn read_bell(file: &[u8], first: usize, layout: Layout) -> Result<Bell, Refusal> {
+    let record = bytes_at(file, first, layout.bell_bytes())?;
     let written = i64::from(record[0]);
     let transposition = i64::from(record[1] as i8);
     let key = written + transposition;
     let hold = Range::new(big_endian(&record[2..4]), big_endian(&record[4..6]));
+    let (rest, rank) = record[6..].split_at(record.len() - 7);
+    // Of no bytes it is 0.
+    let rest = big_endian(rest);
     let keys = LOWEST_KEY..=HIGHEST_KEY;
     let in_range = keys.contains(&written)
         && (-WIDEST_TRANSPOSITION..=WIDEST_TRANSPOSITION).contains(&transposition)
         && 1 <= hold.low
         && hold.low <= hold.high
         && hold.high <= LONGEST_HOLD
+        && rest <= LONGEST_REST
         && keys.contains(&key);
     require(in_range, 6, first)?;
     Ok(Bell {
@@ -190,7 +211,8 @@ fn read_bell(file: &[u8], first: usize) -> Result<Bell, Refusal> {
         transposition: record[1] as i8,
         key,
         hold,
-        rank: u64::from(record[6]),
+        rest,
+        rank: big_endian(rank),
     })
 }
 
@@ -202,19 +224,10 @@ fn read_note(
     bells: &[Bell],
     earlier: &[Stroke],
 ) -> Result<(Stroke, usize), Refusal> {
-    let length = big_endian(bytes_at(file, first, 1)?) as usize;
-    require(
-        (NOTE_FIELDS..=NOTE_FIELDS + MOST_WAITS).contains(&length),
-        9,
-        first,
-    )?;
-    let record = &bytes_at(file, first, 1 + length)?[1..];
+    let record = note_record(file, first)?;
 
     // Request #105: times before the key, although they stand after it.
-    let call = Range::new(big_endian(&record[1..5]), big_endian(&record[5..9]));
-    let due = big_endian(&record[9..NOTE_FIELDS]);
-    let times_right = call.low <= call.high && call.high <= LATEST_TIME && due <= LATEST_TIME;
-    require(times_right, 11, first)?;
+    let (call, due) = read_times(record).ok_or(refusal(11, first))?;
 
     // Bells sound for 12 to 119 only, so a sum below or above finds none.
     let key = i64::from(record[0]) + shift;
@@ -222,17 +235,9 @@ fn read_note(
         return Err(refusal(10, first));
     };
 
-    let listed: Vec<usize> = record[NOTE_FIELDS..]
-        .iter()
-        .map(|&number| usize::from(number))
-        .collect();
-    let rising = listed.windows(2).all(|pair| pair[0] < pair[1]);
-    let below_own = listed.iter().all(|&number| number < earlier.len());
-    require(rising && below_own, 12, first)?;
-
+    let mut waits = read_waits(record, earlier.len()).ok_or(refusal(12, first))?;
     let nearest = earlier.iter().rposition(|s| s.bell == bell);
-    let added = nearest.filter(|number| !listed.contains(number));
-    let mut waits = listed;
+    let added = nearest.filter(|number| !waits.contains(number));
     waits.extend(added);
     waits.sort_unstable();
 
@@ -246,6 +251,33 @@ fn read_note(
         rank: bells[bell].rank,
         waits,
         added,
+        nearest,
+        rest: bells[bell].rest,
     };
-    Ok((stroke, 1 + length))
+    Ok((stroke, 1 + record.len()))
+}
+
+/// The note whose length byte stands at `first`, without that byte.
+fn note_record(file: &[u8], first: usize) -> Result<&[u8], Refusal> {
+    let length = big_endian(bytes_at(file, first, 1)?) as usize;
+    let lengths = NOTE_FIELDS..=NOTE_FIELDS + MOST_WAITS;
+    require(lengths.contains(&length), 9, first)?;
+    Ok(&bytes_at(file, first, 1 + length)?[1..])
+}
+
+/// The call range and the due time of such a record; none if they are wrong.
+fn read_times(record: &[u8]) -> Option<(Range, u64)> {
+    let call = Range::new(big_endian(&record[1..5]), big_endian(&record[5..9]));
+    let due = big_endian(&record[9..NOTE_FIELDS]);
+    let right = call.low <= call.high && call.high <= LATEST_TIME && due <= LATEST_TIME;
+    right.then_some((call, due))
+}
+
+/// What such a record lists; none if it does not rise, or is not all below the note's own number.
+fn read_waits(record: &[u8], own_number: usize) -> Option<Vec<usize>> {
+    let listed = record[NOTE_FIELDS..].iter();
+    let listed: Vec<usize> = listed.map(|&number| usize::from(number)).collect();
+    let rising = listed.windows(2).all(|pair| pair[0] < pair[1]);
+    let below_own = listed.iter().all(|&number| number < own_number);
+    (rising && below_own).then_some(listed)
 }

@@ -1,7 +1,7 @@
 //! The walk: level by level over the states of a phrase, in a table of so many words.
 
 use crate::range::Range;
-use crate::reading::Phrase;
+use crate::reading::{Phrase, Stroke};
 
 #[derive(Clone, Debug, PartialEq, Eq)]
 pub enum Outcome {
@@ -170,12 +170,7 @@ impl<O: FnMut(&Choice, Option<&Edge>)> Walker<'_, O> {
             if state.started >> stroke & 1 == 1 || wait_set & !state.started != 0 {
                 continue;
             }
-            let call = self.phrase.strokes[stroke].call;
-            let waits = &self.phrase.strokes[stroke].waits;
-            let ready = waits.iter().fold(call, |ready, &wait| {
-                let ends = state.ends[wait];
-                Range::new(ready.low.max(ends.low), ready.high.max(ends.high))
-            });
+            let ready = ready(&self.phrase.strokes[stroke], state);
             candidates.push(Candidate { stroke, ready });
         }
     }
@@ -207,14 +202,18 @@ impl<O: FnMut(&Choice, Option<&Edge>)> Walker<'_, O> {
         })
     }
 
-    /// From when on `j` is certainly ready, given that the waits of `i` are done.
+    /// From when on `j` is certainly ready, given that the waits of `i` have been done for their rests.
     fn certain_before(&self, state: &State, j: usize, i: usize) -> u64 {
-        self.phrase.strokes[j]
-            .waits
-            .iter()
-            .filter(|&&wait| self.wait_sets[i] >> wait & 1 == 0)
-            .map(|&wait| state.ends[wait].high)
-            .fold(self.phrase.strokes[j].call.high, u64::max)
+        let (waits_of_i, i) = (self.wait_sets[i], &self.phrase.strokes[i]);
+        let j = &self.phrase.strokes[j];
+        let is_left_out = |wait: usize| {
+            let is_shared = waits_of_i >> wait & 1 == 1;
+            is_shared && j.rest_after(wait) <= i.rest_after(wait)
+        };
+        (j.waits.iter())
+            .filter(|&&wait| !is_left_out(wait))
+            .map(|&wait| state.ends[wait].high + j.rest_after(wait))
+            .fold(j.call.high, u64::max)
     }
 
     /// Takes an edge: widens the running ends, then refuses, joins or stores the new state.
@@ -311,6 +310,14 @@ impl State {
         }
         self.ends[edge.stroke] = ends;
     }
+}
+
+/// [Rmin, Rmax] of a stroke whose waits have all started.
+fn ready(stroke: &Stroke, state: &State) -> Range {
+    stroke.waits.iter().fold(stroke.call, |ready, &wait| {
+        let rested = state.ends[wait].later(stroke.rest_after(wait));
+        Range::new(ready.low.max(rested.low), ready.high.max(rested.high))
+    })
 }
 
 /// The new availability ranges: lower and upper limits, each sorted on its own.

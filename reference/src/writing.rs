@@ -2,8 +2,8 @@
 
 use crate::layout::{DRIVERS_AT, HEAD, Layout, SHIFT_AT};
 use crate::reading::{
-    BELL_BYTES, Bell, HIGHEST_KEY, LATEST_TIME, LONGEST_HOLD, LOWEST_KEY, MOST_BELLS, MOST_DRIVERS,
-    MOST_STROKES, MOST_WAITS, NOTE_FIELDS, Phrase, Refusal, Stroke, WIDEST_SHIFT,
+    Bell, HIGHEST_KEY, LATEST_TIME, LONGEST_HOLD, LONGEST_REST, LOWEST_KEY, MOST_BELLS,
+    MOST_DRIVERS, MOST_STROKES, MOST_WAITS, NOTE_FIELDS, Phrase, Refusal, Stroke, WIDEST_SHIFT,
     WIDEST_TRANSPOSITION, refusal, require,
 };
 
@@ -19,6 +19,8 @@ pub struct EditedBell {
     pub transposition: u32,
     pub ca: u32,
     pub cb: u32,
+    /// 0 in a phrase of version 1 or 2, whose file has no bytes for it.
+    pub rest: u32,
     /// p
     pub rank: u32,
 }
@@ -130,6 +132,7 @@ impl From<&Bell> for EditedBell {
             transposition: u32::from(bell.transposition as u8),
             ca: bell.hold.low as u32,
             cb: bell.hold.high as u32,
+            rest: bell.rest as u32,
             rank: bell.rank as u32,
         }
     }
@@ -189,10 +192,10 @@ pub fn file_length(phrase: &EditedPhrase) -> Result<usize, Refusal> {
     let mut at = layout.bells_at();
     let mut sounding: Sounding = [false; HIGHEST_KEY as usize + 1];
     for bell in phrase.bells() {
-        let key = sounding_key(bell).ok_or(refusal(6, at))?;
+        let key = sounding_key(bell, layout).ok_or(refusal(6, at))?;
         require(!sounding[key], 7, at)?;
         sounding[key] = true;
-        at += BELL_BYTES;
+        at += layout.bell_bytes();
     }
 
     require(phrase.note_count as usize <= MOST_STROKES, 8, at)?;
@@ -216,17 +219,20 @@ fn semitones(shift: u32, layout: Layout) -> Option<i64> {
     (-widest..=widest).contains(&shift).then_some(shift)
 }
 
-/// The key that a bell sounds for; none if a field, or this key, is out of range.
-fn sounding_key(bell: &EditedBell) -> Option<usize> {
+/// The key that a bell sounds for; none if a field, or this key, is out of range, or the rest is not 0 where the file has no
+/// bytes for it.
+fn sounding_key(bell: &EditedBell, layout: Layout) -> Option<usize> {
     let transposition = i64::from(u8::try_from(bell.transposition).ok()? as i8);
     let written = i64::from(bell.written);
     let key = written + transposition;
     let keys = LOWEST_KEY..=HIGHEST_KEY;
+    let longest_rest = if layout.has_rest { LONGEST_REST } else { 0 };
     let in_range = keys.contains(&written)
         && (-WIDEST_TRANSPOSITION..=WIDEST_TRANSPOSITION).contains(&transposition)
         && 1 <= bell.ca
         && bell.ca <= bell.cb
         && u64::from(bell.cb) <= LONGEST_HOLD
+        && u64::from(bell.rest) <= longest_rest
         && bell.rank <= u32::from(u8::MAX)
         && keys.contains(&key);
     in_range.then_some(key as usize)
@@ -268,33 +274,32 @@ fn put_phrase(phrase: &EditedPhrase, file: &mut [u8]) {
     }
     file[layout.bell_count_at()] = phrase.bell_count as u8;
 
-    let bell_bytes = BELL_BYTES * phrase.bells().len();
-    let (bells, rest) = file[layout.bells_at()..].split_at_mut(bell_bytes);
-    for (record, bell) in bells.chunks_exact_mut(BELL_BYTES).zip(phrase.bells()) {
-        put_bell(bell, record);
+    let bell_bytes = layout.bell_bytes();
+    let all_bells = bell_bytes * phrase.bells().len();
+    let (bells, after) = file[layout.bells_at()..].split_at_mut(all_bells);
+    for (record, bell) in bells.chunks_exact_mut(bell_bytes).zip(phrase.bells()) {
+        put_bell(bell, layout, record);
     }
 
-    rest[0] = phrase.note_count as u8;
-    let mut rest = &mut rest[1..];
+    after[0] = phrase.note_count as u8;
+    let mut notes = &mut after[1..];
     for note in phrase.notes() {
-        let (record, after) = rest.split_at_mut(NOTE_BYTES + note.waits().len());
+        let (record, after) = notes.split_at_mut(NOTE_BYTES + note.waits().len());
         put_note(note, record);
-        rest = after;
+        notes = after;
     }
 }
 
-fn put_bell(bell: &EditedBell, record: &mut [u8]) {
-    let [.., ca_high, ca_low] = bell.ca.to_be_bytes();
-    let [.., cb_high, cb_low] = bell.cb.to_be_bytes();
-    record.copy_from_slice(&[
-        bell.written as u8,
-        bell.transposition as u8,
-        ca_high,
-        ca_low,
-        cb_high,
-        cb_low,
-        bell.rank as u8,
-    ]);
+fn put_bell(bell: &EditedBell, layout: Layout, record: &mut [u8]) {
+    record[0] = bell.written as u8;
+    record[1] = bell.transposition as u8;
+    record[2..4].copy_from_slice(&(bell.ca as u16).to_be_bytes());
+    record[4..6].copy_from_slice(&(bell.cb as u16).to_be_bytes());
+    let (rest, rank) = record[6..].split_at_mut(layout.bell_bytes() - 7);
+    if layout.has_rest {
+        rest.copy_from_slice(&(bell.rest as u16).to_be_bytes());
+    }
+    rank[0] = bell.rank as u8;
 }
 
 fn put_note(note: &EditedNote, record: &mut [u8]) {

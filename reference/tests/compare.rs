@@ -1,12 +1,17 @@
 //! The product's library against this checker: numbers, places, texts and all that stays untouched.
 //!
 //! COMPARE_COUNT phrases (20,000) of COMPARE_SEED (1), from number COMPARE_FIRST (0) on, for every two
-//! thousand one of the widest, for every four one with calls at 0, and for every four one of version 2.
+//! thousand one of the widest, for every four one with calls at 0, for every four one of version 2, and for
+//! every two one of version 3.
 
 #[path = "common/counts.rs"]
 mod counts;
 #[path = "common/lent.rs"]
 mod lent;
+#[path = "common/rested_kinds.rs"]
+mod rested_kinds;
+#[path = "common/rested_verdicts.rs"]
+mod rested_verdicts;
 #[path = "common/settings.rs"]
 mod settings;
 #[path = "common/shifted_kinds.rs"]
@@ -27,18 +32,22 @@ use reference::examples::*;
 use reference::foreign;
 use reference::note_order::{ENOUGH_WORDS, OF_FILES, file_was_10, tried_notes};
 use reference::paper::steps;
-use reference::random::{self, Case, Generator, at_zero_case, case, shifted_case, widest_case};
+use reference::random::{
+    self, Case, Generator, at_zero_case, case, rested_case, shifted_case, widest_case,
+};
 use reference::reading::read;
 use reference::report::check_and_text;
 use reference::walk::{capacity, walk_observed, words_per_state};
+use rested_kinds::RestedKinds;
+use rested_verdicts::RestedVerdicts;
 use settings::{Wanted, in_hexadecimal, named};
 use shifted_kinds::ShiftedKinds;
 use tally::Tally;
 use tried_notes::demand_exactly;
 use was_10::WasTen;
 
-/// So many cases have to meet latest starts below zero, all kinds of version 2 and what was 10 often; fewer are for a
-/// look at one difference.
+/// So many cases have to meet latest starts below zero, all kinds of versions 2 and 3 and what was 10 often; fewer are for
+/// a look at one difference.
 const ENOUGH: u64 = 5_000;
 
 /// What was compared, by the answers in lent tables.
@@ -253,6 +262,33 @@ fn compare_random_phrases_of_version_2() -> Result<(), String> {
     was_10.demand(cases)
 }
 
+fn compare_random_phrases_of_version_3() -> Result<(), String> {
+    let wanted = Wanted::new()?;
+    let numbers = wanted.numbers(random::CASES_PER_RESTED);
+    let (mut kinds, mut verdicts) = (RestedKinds::new(), RestedVerdicts::new());
+    let (mut reports, mut was_10) = (Reports::default(), WasTen::default());
+    for number in numbers.clone() {
+        let case = rested_case(wanted.seed, number);
+        let answer = compare_drawn(&wanted, number, &case, &mut reports)
+            .map_err(|difference| format!("version 3, {difference}"))?;
+        kinds.add(&case.file, answer);
+        verdicts.add(&case.file, case.table_words);
+        was_10.add(file_was_10(&case.file));
+    }
+    (kinds.answers).print("random phrases of version 3 that agree, by their answer in such tables");
+    kinds.print();
+    verdicts.print();
+    was_10.print("those of them");
+    reports.print();
+    let cases = numbers.end - numbers.start;
+    if cases < ENOUGH {
+        return Ok(());
+    }
+    kinds.demand_all(cases)?;
+    verdicts.demand_all(cases)?;
+    was_10.demand(cases)
+}
+
 /// Gives the answer in the lent table.
 fn compare_drawn(
     wanted: &Wanted,
@@ -309,6 +345,36 @@ fn compare_examples_of_version_2() -> Result<(), String> {
     files.extend(refused_of_version_2().into_iter().map(|(file, ..)| file));
     compare_files(&files)?;
     println!("examples of version 2 that agree: {}", files.len());
+    Ok(())
+}
+
+fn compare_examples_of_version_3() -> Result<(), String> {
+    let mut files = vec![
+        P_RESTED.to_vec(),
+        p_rested_with(&[(40, 6)]),
+        late_by_a_rest(),
+    ];
+    files.extend(rested_examples().iter().map(|e| e.draft.bytes()));
+    files.extend(refused_of_version_3().into_iter().map(|(file, ..)| file));
+    compare_files(&files)?;
+    println!("examples of version 3 that agree: {}", files.len());
+    Ok(())
+}
+
+/// Every rest that two bytes can hold, on a bell that is struck twice.
+fn compare_rests() -> Result<(), String> {
+    let mut accepted = 0;
+    for rest in 0..=u16::MAX {
+        let mut draft = rested_examples().swap_remove(0).draft;
+        draft.bells[0].rest = Some(rest);
+        draft.notes[1].due = 5_000;
+        accepted += u64::from(compare_once(&draft.bytes(), 16, rest.into())? == 0);
+    }
+    println!("all rests agree, {accepted} of them accepted");
+    // Two holds of 2 and the rest are at most 5000.
+    if accepted != 4_997 {
+        return Err("other rests than there should be are accepted".to_string());
+    }
     Ok(())
 }
 
@@ -374,6 +440,7 @@ fn compare_large_levels() -> Result<(), String> {
         transposition: 0,
         ca: 1,
         cb: 3,
+        rest: None,
         rank: number % 3,
     });
     let notes = (0..STROKES).map(|number| DraftNote::new(40 + number, 0, 1_000, 5_000, vec![]));
@@ -401,6 +468,9 @@ fn main() -> ExitCode {
         .and_then(|()| compare_keys_and_shifts())
         .and_then(|()| compare_tried_notes())
         .and_then(|()| compare_random_phrases_of_version_2())
+        .and_then(|()| compare_examples_of_version_3())
+        .and_then(|()| compare_rests())
+        .and_then(|()| compare_random_phrases_of_version_3())
     {
         Ok(()) => ExitCode::SUCCESS,
         Err(difference) => {

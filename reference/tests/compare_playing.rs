@@ -1,7 +1,8 @@
 //! The library's runs of playings against this checker's: answers, every word of starts and ends, and the words beyond.
 //!
-//! COMPARE_COUNT phrases with a playing (20,000) of COMPARE_SEED (1), from number COMPARE_FIRST (0) on, and for every four one
-//! of version 2; and every playing of the marked phrases and of PLAYED_PHRASES small ones (600) that are accepted.
+//! COMPARE_COUNT phrases with a playing (20,000) of COMPARE_SEED (1), from number COMPARE_FIRST (0) on, for every four one of
+//! version 2, and for every two one of version 3; and every playing of the marked phrases and of PLAYED_PHRASES small ones (600)
+//! that are accepted, and of as many with rests.
 
 #[path = "common/counts.rs"]
 mod counts;
@@ -11,6 +12,10 @@ mod differences;
 mod lent;
 #[path = "common/played_kinds.rs"]
 mod played_kinds;
+#[path = "common/rested_kinds.rs"]
+mod rested_kinds;
+#[path = "common/rested_runs.rs"]
+mod rested_runs;
 #[path = "common/settings.rs"]
 mod settings;
 #[path = "common/shifted_kinds.rs"]
@@ -27,27 +32,32 @@ use lent::Lent;
 use played_kinds::{Kinds, is_long};
 use reference::check::{Check, HOST_WORDS, check_phrase};
 use reference::dispatch::{Scenario, all_scenarios, scenario_count};
-use reference::draft::playing_bytes;
+use reference::draft::{Draft, playing_bytes};
 use reference::events::by_events;
 use reference::examples::*;
 use reference::foreign;
 use reference::note_order::file_was_10;
 use reference::playing::{Played, literally, play_by, read_playing};
-use reference::random::{self, Generator, PlayedCase, TINY, played_case, shifted_played_case};
+use reference::random::{
+    self, Generator, PlayedCase, TINY, played_case, rested_played_case, shifted_played_case,
+    small_rested,
+};
 use reference::reading::{MOST_STROKES, Phrase, Refusal, read};
+use rested_kinds::RestedKinds;
+use rested_runs::RestedRuns;
 use settings::{Wanted, in_hexadecimal, named, setting};
 use shifted_kinds::ShiftedKinds;
 
 /// So many cases have to meet every kind often; fewer are for a look at one difference.
 const ENOUGH: u64 = 5_000;
-/// Long runs that are run literally too, in version 1 and in version 2.
-const LONG_AND_LITERAL: [u64; 2] = [12, 3];
+/// Long runs that are run literally too, by version, from 1 on.
+const LONG_AND_LITERAL: [u64; 3] = [12, 3, 6];
 /// Small phrases with more playings than this take too long.
 const MOST_PLAYINGS: u64 = 3_000;
 
 /// The literal run; the one by events stands in for it where it is slow.
 fn run(phrase: &Phrase, scenario: &Scenario) -> Played {
-    if is_long(scenario) {
+    if is_long(phrase, scenario) {
         by_events(phrase, scenario)
     } else {
         literally(phrase, scenario)
@@ -117,6 +127,14 @@ fn keeps_promises(phrase: &Phrase, check: &Check, found: &Played) -> Result<(), 
             end <= stroke.due,
             format!("stroke {number} ends at {end}, due {}", stroke.due),
         )?;
+        if let Some(nearest) = stroke.nearest {
+            let (start, ended) = (found.starts[number], found.ends[nearest]);
+            let rest = phrase.bells[stroke.bell].rest;
+            same(
+                start >= ended + rest,
+                format!("stroke {number} starts at {start}, {nearest} ended at {ended}"),
+            )?;
+        }
     }
     Ok(())
 }
@@ -145,8 +163,8 @@ fn compare_case(
                 keeps_promises(&phrase, &check, &found)?;
             }
             kinds.add_run(&phrase, &scenario, played, check.is_accepted());
-            let most_literal = LONG_AND_LITERAL[usize::from(phrase.version == 2)];
-            if is_long(&scenario) && kinds.literal_too < most_literal {
+            let most_literal = LONG_AND_LITERAL[phrase.version as usize - 1];
+            if is_long(&phrase, &scenario) && kinds.literal_too < most_literal {
                 kinds.literal_too += 1;
                 let literal = literally(&phrase, &scenario);
                 same(found == literal, "not the literal run")?;
@@ -204,6 +222,40 @@ fn compare_random_of_version_2() -> Result<(), String> {
     shifted.demand_all(cases)
 }
 
+fn compare_random_of_version_3() -> Result<(), String> {
+    let wanted = Wanted::new()?;
+    let numbers = wanted.numbers(random::CASES_PER_RESTED);
+    let (mut kinds, mut rested) = (Kinds::new(), RestedKinds::new());
+    let mut runs = RestedRuns::new();
+    for number in numbers.clone() {
+        let mut random = Generator::of_case(!wanted.seed, number);
+        let case = rested_played_case(wanted.seed, number);
+        let answer = compare_case(&case, &mut random, &mut kinds).map_err(|difference| {
+            format!(
+                "version 3, {}: {difference}\n{}",
+                wanted.name(number),
+                described(&case)
+            )
+        })?;
+        rested.add(&case.file, answer);
+        if let (0, Ok(phrase)) = (answer, read(&case.file)) {
+            let scenario = read_playing(&phrase, &case.playing).expect("it was run");
+            runs.add(&phrase, &scenario, &by_events(&phrase, &scenario));
+        }
+    }
+    println!("version 3:");
+    kinds.print();
+    rested.print();
+    runs.print();
+    let cases = numbers.end - numbers.start;
+    if cases < ENOUGH {
+        return Ok(());
+    }
+    kinds.demand_all(cases)?;
+    rested.demand_all(cases)?;
+    runs.demand(cases)
+}
+
 fn described(case: &PlayedCase) -> String {
     format!(
         "file {}\nplaying {}",
@@ -232,15 +284,31 @@ fn compare_all_playings(file: &[u8], random: &mut Generator) -> Result<u64, Stri
 }
 
 fn compare_small_phrases() -> Result<(), String> {
+    let examples = [P.to_vec(), m1(), m5(), m6(), m7(), m8()];
+    let draw = |random: &mut Generator| random::draft(random, &TINY);
+    compare_examples_and_small_phrases("the marked phrases", &examples, draw)
+}
+
+fn compare_small_phrases_with_rests() -> Result<(), String> {
+    let mut examples = vec![P_RESTED.to_vec()];
+    examples.extend(rested_examples().iter().map(|e| e.draft.bytes()));
+    compare_examples_and_small_phrases("the examples with rests", &examples, small_rested)
+}
+
+fn compare_examples_and_small_phrases(
+    name: &str,
+    examples: &[Vec<u8>],
+    draw: impl Fn(&mut Generator) -> Draft,
+) -> Result<(), String> {
     let wanted = setting("PLAYED_PHRASES", 600)?;
     let mut random = Generator::new(random::SEED);
     let mut playings = 0;
-    for file in [P.to_vec(), m1(), m5(), m6(), m7(), m8()] {
-        playings += compare_all_playings(&file, &mut random)?;
+    for file in examples {
+        playings += compare_all_playings(file, &mut random)?;
     }
     let mut phrases = 0;
     while phrases < wanted {
-        let draft = random::draft(&mut random, &TINY);
+        let draft = draw(&mut random);
         let file = random::tuned(&mut random, draft).bytes();
         let phrase = read(&file).map_err(|refusal| format!("{refusal:?}"))?;
         let is_small = scenario_count(&phrase).is_some_and(|count| count <= MOST_PLAYINGS);
@@ -249,7 +317,7 @@ fn compare_small_phrases() -> Result<(), String> {
             playings += compare_all_playings(&file, &mut random)?;
         }
     }
-    println!("all playings of the marked phrases and {phrases} small ones agree: {playings}");
+    println!("all playings of {name} and {phrases} small ones agree: {playings}");
     same(playings >= 100 * wanted, "small phrases have few playings")
 }
 
@@ -266,19 +334,31 @@ fn compare_examples_of_version_2() -> Result<(), String> {
         playings += compare_all_playings(&file, &mut random)?;
     }
     let refused = refused_of_version_2();
-    for (file, number, place) in &refused {
-        let case = PlayedCase {
-            file: file.clone(),
-            playing: vec![1, 0, 0, 0, 0],
-        };
-        let (number, place) = (*number, *place);
-        compare_play(&case, &Err(Refusal { number, place }), &mut random)
-            .map_err(|difference| format!("{difference}\n{}", described(&case)))?;
-    }
+    compare_refused(&refused, &mut random)?;
     println!(
         "all playings of the examples of version 2 agree: {playings}, and {} that are refused",
         refused.len()
     );
+    Ok(())
+}
+
+fn compare_examples_of_version_3() -> Result<(), String> {
+    let refused = refused_of_version_3();
+    compare_refused(&refused, &mut Generator::new(random::SEED))?;
+    println!("files of version 3 that are refused: {}", refused.len());
+    Ok(())
+}
+
+/// Files with the number and the place of their refusals.
+fn compare_refused(refused: &[(Vec<u8>, u64, u64)], random: &mut Generator) -> Result<(), String> {
+    for &(ref file, number, place) in refused {
+        let case = PlayedCase {
+            file: file.clone(),
+            playing: vec![1, 0, 0, 0, 0],
+        };
+        compare_play(&case, &Err(Refusal { number, place }), random)
+            .map_err(|difference| format!("{difference}\n{}", described(&case)))?;
+    }
     Ok(())
 }
 
@@ -287,6 +367,9 @@ fn main() -> ExitCode {
         .and_then(|()| compare_random())
         .and_then(|()| compare_examples_of_version_2())
         .and_then(|()| compare_random_of_version_2())
+        .and_then(|()| compare_small_phrases_with_rests())
+        .and_then(|()| compare_examples_of_version_3())
+        .and_then(|()| compare_random_of_version_3())
     {
         Ok(()) => ExitCode::SUCCESS,
         Err(difference) => {

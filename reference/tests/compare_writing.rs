@@ -2,7 +2,7 @@
 //! that stays untouched.
 //!
 //! COMPARE_COUNT phrases to write (20,000) and as many files to read, of COMPARE_SEED (1), from number COMPARE_FIRST (0)
-//! on, and for every four one of version 2; and all files that are stored.
+//! on, for every four one of version 2, and for every two one of version 3; and all files that are stored.
 
 #[path = "common/counts.rs"]
 mod counts;
@@ -10,6 +10,10 @@ mod counts;
 mod differences;
 #[path = "common/lent.rs"]
 mod lent;
+#[path = "common/rested_kinds.rs"]
+mod rested_kinds;
+#[path = "common/rested_writing.rs"]
+mod rested_writing;
 #[path = "common/settings.rs"]
 mod settings;
 #[path = "common/shifted_kinds.rs"]
@@ -31,14 +35,20 @@ use std::process::ExitCode;
 use differences::{same, same_number};
 use lent::Lent;
 use reference::draft::Draft;
-use reference::examples::{P, P_SHIFTED, outermost_bells, p_shifted_with};
+use reference::examples::{
+    P, P_RESTED, P_SHIFTED, outermost_bells, p_rested_with, p_shifted_with, refused_of_version_3,
+    rested_examples,
+};
 use reference::foreign::{self, HostPhrase};
 use reference::note_order::{OF_FILES, OF_PHRASES, file_was_10, phrase_was_10, tried_notes};
 use reference::random::{
-    self, EditedCase, Generator, case, edited_case, shifted_case, shifted_edited_case,
+    self, EditedCase, Generator, case, edited_case, rested_case, rested_edited_case, shifted_case,
+    shifted_edited_case,
 };
 use reference::reading::{Refusal, read};
 use reference::writing::{EditedPhrase, file_length, write};
+use rested_kinds::RestedKinds;
+use rested_writing::RestedWriting;
 use settings::{Wanted, in_hexadecimal, named};
 use shifted_kinds::ShiftedKinds;
 use shifted_writing::ShiftedWriting;
@@ -49,8 +59,8 @@ use was_10::WasTen;
 
 /// So many phrases have to meet every kind; fewer are for a look at one difference.
 const ENOUGH: u64 = 5_000;
-/// 96 bells, and 64 notes that list as many strokes as they can; in version 1 and in version 2.
-const LONGEST: [usize; 2] = [1_822, 1_823];
+/// 96 bells, and 64 notes that list as many strokes as they can; by version, from 1 on.
+const LONGEST: [usize; 3] = [1_822, 1_823, 2_015];
 
 /// What was compared, by its answer.
 #[derive(Default)]
@@ -94,7 +104,7 @@ impl Kinds {
         self.written_was_10.add(phrase_was_10(&case.phrase));
         if let Ok(length) = file_length(&case.phrase) {
             self.rooms[room_kind(case.room, length)] += 1;
-            let longest = LONGEST[usize::from(case.phrase.version == 2)];
+            let longest = LONGEST[case.phrase.version as usize - 1];
             self.longest += u64::from(length == longest && expected.is_ok());
         }
     }
@@ -263,7 +273,7 @@ fn compare_case(
 ) -> Result<(), String> {
     let EditedCase { phrase, room } = case;
     let expected = write(phrase, *room);
-    let host = HostPhrase::of(phrase, || derived_or_spare(random));
+    let host = HostPhrase::of(phrase, || derived(random));
     named("phrase_write", || {
         compare_write(&host, *room, &expected, random)
     })?;
@@ -279,7 +289,7 @@ fn compare_case(
 }
 
 /// What nobody reads: any number, or one that could be a key or a bell.
-fn derived_or_spare(random: &mut Generator) -> u32 {
+fn derived(random: &mut Generator) -> u32 {
     let limit = random.pick(&[1, 128, 1 << 32]);
     random.below(limit) as u32
 }
@@ -380,6 +390,33 @@ fn compare_random_of_version_2() -> Result<(), String> {
     read.demand_all(cases)
 }
 
+fn compare_random_of_version_3() -> Result<(), String> {
+    let wanted = Wanted::new()?;
+    let numbers = wanted.numbers(random::CASES_PER_RESTED);
+    let mut kinds = Kinds::default();
+    let (mut written, mut read) = (RestedWriting::new(), RestedKinds::new());
+    for number in numbers.clone() {
+        let mut random = Generator::of_case(!wanted.seed, number);
+        let edited = rested_edited_case(wanted.seed, number);
+        let file = rested_case(wanted.seed, number).file;
+        let here = format!("version 3, {}", wanted.name(number));
+        compare_drawn(&here, &edited, &file, &mut random, &mut kinds)?;
+        written.add(&edited.phrase);
+        read.add(&file, read_number(&file));
+    }
+    println!("version 3:");
+    kinds.print();
+    written.print();
+    read.print();
+    let cases = numbers.end - numbers.start;
+    if cases < ENOUGH {
+        return Ok(());
+    }
+    kinds.demand_all(cases, &[19])?;
+    written.demand_all(cases)?;
+    read.demand_all(cases)
+}
+
 /// Numbers that could be taken for a byte or for a signed word.
 fn words() -> impl Iterator<Item = u32> {
     (0..=512).chain((0..=300).map(|less| u32::MAX - less))
@@ -389,7 +426,7 @@ fn words() -> impl Iterator<Item = u32> {
 fn compare_changed(phrase: &EditedPhrase, random: &mut Generator) -> Result<u64, String> {
     const ROOM: usize = 90;
     let expected = write(phrase, ROOM);
-    let host = HostPhrase::of(phrase, || derived_or_spare(random));
+    let host = HostPhrase::of(phrase, || derived(random));
     compare_write(&host, ROOM, &expected, random)
         .map_err(|difference| format!("{difference}\nversion {}, {phrase:?}", phrase.version))?;
     Ok(host_number(&expected))
@@ -427,15 +464,17 @@ fn compare_keys_and_shifts() -> Result<(), String> {
     same(all_met, "other keys than there should be find a bell")
 }
 
-/// Every shift read in version 2, and, shifts that are too wide as well, written in both versions.
+/// Every shift read in versions 2 and 3, and, shifts that are too wide as well, written in all versions.
 fn compare_shifts() -> Result<(), String> {
     let mut random = Generator::new(random::SEED);
     for shift in 0..=255 {
-        compare_file(&p_shifted_with(6, shift), &mut random)
-            .map_err(|difference| format!("shift {shift}: {difference}"))?;
+        for file in [p_shifted_with(6, shift), p_rested_with(&[(6, shift)])] {
+            compare_file(&file, &mut random)
+                .map_err(|difference| format!("shift {shift}: {difference}"))?;
+        }
     }
     let mut written = Tally::default();
-    for mut phrase in [edited(&P), edited(&P_SHIFTED)] {
+    for mut phrase in [edited(&P), edited(&P_SHIFTED), edited(&P_RESTED)] {
         // Without notes, any shift in range is sound.
         for note_count in [0, 2] {
             phrase.note_count = note_count;
@@ -447,11 +486,54 @@ fn compare_shifts() -> Result<(), String> {
     }
     let are_written = written.counts[0];
     println!("all shifts agree, {are_written} are written");
-    // In version 1 only 0, with notes and without; in version 2 all without notes, and the one that they are written for.
+    // In version 1 only 0, with notes and without; then all without notes, and the one that they are written for.
     same(
-        are_written == 2 + 49 + 1,
+        are_written == 2 + 2 * (49 + 1),
         "other shifts than there should be are sound",
     )
+}
+
+/// Rests at and around the limits of their range and of their bytes, and numbers whose low bytes are right.
+fn rests() -> impl Iterator<Item = u32> {
+    let wide = [1 << 16, 5_000 + (1 << 16), 1 << 24, 1 << 31, u32::MAX];
+    (0..=5_300).chain(65_500..=65_600).chain(wide)
+}
+
+/// Every rest of two bytes read, and rests that are too wide as well written in all versions, for each bell.
+fn compare_rests() -> Result<(), String> {
+    let mut random = Generator::new(random::SEED);
+    for (high, low) in (0..=255).flat_map(|high| (0..=255).map(move |low| (high, low))) {
+        let file = p_rested_with(&[(23, high), (24, low)]);
+        compare_example(&file, &mut random)?;
+    }
+    let mut written = Tally::default();
+    for example in [&P[..], &P_SHIFTED, &P_RESTED] {
+        for bell in [0, 1] {
+            let mut phrase = edited(example);
+            for rest in rests() {
+                phrase.bells[bell].rest = rest;
+                written.add(compare_changed(&phrase, &mut random)?);
+            }
+        }
+    }
+    let are_written = written.counts[0];
+    println!("all rests agree, {are_written} are written");
+    // In versions 1 and 2 only 0, in version 3 all up to 5000; for each of two bells.
+    same(
+        are_written == 2 * (1 + 1 + 5_001),
+        "other rests than there should be are sound",
+    )
+}
+
+/// The examples with rests, read and written again, and the files of version 3 that are refused.
+fn compare_examples_of_version_3() -> Result<(), String> {
+    let mut random = Generator::new(random::SEED);
+    let sound = rested_examples().into_iter().map(|e| e.draft.bytes());
+    let refused = refused_of_version_3().into_iter().map(|(file, ..)| file);
+    for file in sound.chain(refused) {
+        compare_example(&file, &mut random)?;
+    }
+    Ok(())
 }
 
 /// Every note of a phrase with any of rules 10, 11 and 12 broken, each in several ways: written, and read if all fits
@@ -500,6 +582,9 @@ fn main() -> ExitCode {
         .and_then(|()| compare_shifts())
         .and_then(|()| compare_tried_notes())
         .and_then(|()| compare_random_of_version_2())
+        .and_then(|()| compare_examples_of_version_3())
+        .and_then(|()| compare_rests())
+        .and_then(|()| compare_random_of_version_3())
     {
         Ok(()) => ExitCode::SUCCESS,
         Err(difference) => {

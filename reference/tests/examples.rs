@@ -1,4 +1,4 @@
-//! Every example of document 01, and P with a shift.
+//! Every example of document 01, P with a shift and with rests, and phrases in which rests decide.
 
 use reference::check::{Answer, Check, HOST_WORDS, check};
 use reference::examples::*;
@@ -88,6 +88,69 @@ fn refusals_of_reading_have_their_places_in_version_2() {
         assert_refused(&file, HOST_WORDS, number, place, &line);
         assert_refused(&file, 0, number, place, &line);
     }
+}
+
+#[test]
+fn p_with_rests_is_reported_as_p() {
+    assert_eq!(report_text(&P_RESTED, HOST_WORDS), P_REPORT);
+    assert_accepted(&P_RESTED, 32, &[(2, 7), (4, 6)], 4);
+    assert_refused(&P_RESTED, 31, 13, 1, "refused 13 level 1\n");
+    // Stroke 0 due 6.
+    let late = p_rested_with(&[(40, 0x06)]);
+    let line = "refused 14 stroke 0 ends 6..7\n";
+    assert_eq!(report_text(&late, HOST_WORDS), line);
+}
+
+#[test]
+fn refusals_of_reading_have_their_places_in_version_3() {
+    for (file, number, place) in refused_of_version_3() {
+        let line = format!("refused {number} at {place}\n");
+        assert_refused(&file, HOST_WORDS, number, place, &line);
+        assert_refused(&file, 0, number, place, &line);
+    }
+}
+
+#[test]
+fn phrases_with_rests_have_their_ends_and_states() {
+    for example in rested_examples() {
+        println!("{}", example.name);
+        let file = example.draft.bytes();
+        assert_accepted(&file, HOST_WORDS, &example.ends, example.states);
+    }
+}
+
+#[test]
+fn a_rest_makes_a_stroke_late() {
+    let late = Answer::Late {
+        stroke: 1,
+        ends: Range::new(7, 7),
+    };
+    assert_eq!(check(&late_by_a_rest(), HOST_WORDS), Check::bare(late));
+    let line = "refused 14 stroke 1 ends 7..7\n";
+    assert_eq!(report_text(&late_by_a_rest(), HOST_WORDS), line);
+    // One millisecond less, and it is on time.
+    let mut on_time = late_by_a_rest();
+    assert_eq!(on_time[14..16], [0, 3]);
+    on_time[15] = 2;
+    assert_accepted(&on_time, HOST_WORDS, &[(2, 2), (6, 6)], 3);
+}
+
+/// Responses are counted from the call, and neither they nor availabilities have the rest in them: with two drivers, stroke 2
+/// starts at 0 beside stroke 0, and the rest of bell 0 keeps no driver.
+#[test]
+fn rests_are_in_no_response_and_keep_no_driver() {
+    let strokes: [RestedStroke; 4] = [
+        (0, 1, 1, 3_600_000, &[]),
+        (0, 2, 2, 3_600_000, &[]),
+        (1, 0, 0, 3_600_000, &[]),
+        (1, 3, 3, 3_600_000, &[]),
+    ];
+    // 2 at 0..3; 0 at 1..3; at 3 both drivers are free, and stroke 3 takes one of them; 1 has to rest until 3 + 9.
+    let file = rested(2, &[(2, 2, 9, 1), (3, 3, 0, 2)], &strokes).bytes();
+    assert_accepted(&file, HOST_WORDS, &[(3, 3), (14, 14), (3, 3), (6, 6)], 5);
+    let responses = check(&file, HOST_WORDS).responses;
+    let due = [(2, 2), (12, 12), (3, 3), (3, 3)].map(|(low, high)| Range::new(low, high));
+    assert_eq!(responses[..4], due);
 }
 
 #[test]

@@ -12,6 +12,7 @@ fn sound() -> Draft {
         transposition,
         ca: 1,
         cb: 5000,
+        rest: None,
         rank: 255,
     });
     let notes = [40, 36, 84, 12, 119].map(|key| DraftNote::new(key, 5, 5, 3_600_000, vec![]));
@@ -84,6 +85,7 @@ fn bell_fields_have_their_limits() {
                 transposition,
                 ca,
                 cb,
+                rest: None,
                 rank: 0,
             };
             // The bells at the limits would be in the way of the sounding keys tried here.
@@ -184,7 +186,7 @@ fn note_fields_have_their_limits() {
 #[test]
 fn the_first_rule_in_order_answers() {
     assert_eq!(
-        answer(|d| (d.version, d.count_error) = (3, 1)),
+        answer(|d| (d.version, d.count_error) = (4, 1)),
         Some((1, 0))
     );
     assert_eq!(
@@ -220,17 +222,18 @@ fn the_first_rule_in_order_answers() {
 }
 
 #[test]
-fn only_versions_1_and_2_are_read() {
+fn only_versions_1_to_3_are_read() {
     for version in 0..=255 {
         // 5 bytes, none of them the driver count.
         let expected = match version {
-            1 | 2 => Some((3, 5)),
+            1..=3 => Some((3, 5)),
             _ => Some((1, 0)),
         };
         assert_eq!(refused(&[version, 0, 0, 0, 0]), expected, "{version}");
         let expected = match version {
             1 => Some((5, 6)),
             2 => None,
+            3 => Some((6, 17)),
             _ => Some((1, 0)),
         };
         assert_eq!(refused(&p_shifted_with(0, version)), expected, "{version}");
@@ -331,11 +334,84 @@ fn the_first_rule_in_order_answers_in_version_2() {
     assert_eq!(note(119, 6, vec![4]), Some((11, note_4)));
     assert_eq!(note(118, 5, vec![4]), Some((10, note_4)));
     assert_eq!(note(119, 5, vec![4]), Some((12, note_4)));
-    assert_eq!(answer_2(|d| d.rest = vec![0]), Some((3, note_4 + 14)));
+    assert_eq!(answer_2(|d| d.remaining = vec![0]), Some((3, note_4 + 14)));
+}
+
+/// The same five bells and notes in version 3, shift 0 and rest 0, after a change.
+fn answer_3(change: impl FnOnce(&mut Draft)) -> Option<(u64, u64)> {
+    answer(|d| {
+        *d = d.clone().rested(|| 0);
+        change(d);
+    })
 }
 
 #[test]
-fn a_head_of_one_version_before_the_rest_of_the_other_is_read_by_the_head() {
+fn every_rest_up_to_5000_is_read() {
+    for rest in 0..=65_535 {
+        let found = answer_3(|d| d.bells[2].rest = Some(rest));
+        let expected = (rest > 5_000).then_some((6, 8 + 2 * 9));
+        assert_eq!(found, expected, "{rest}");
+    }
+    let rests = [0, 1, 255, 256, 5_000];
+    let mut drawn = rests.into_iter();
+    let draft = sound().rested(|| drawn.next().unwrap());
+    let phrase = read(&draft.bytes()).unwrap();
+    assert_eq!((phrase.version, phrase.shift), (3, 0));
+    for (stroke, rest) in phrase.strokes.iter().zip(rests) {
+        // The fields around the rest are what they are in other versions.
+        let bell = &phrase.bells[stroke.bell];
+        assert_eq!((bell.rest, stroke.rest), (rest.into(), rest.into()));
+        assert_eq!((bell.hold.low, bell.hold.high, bell.rank), (1, 5_000, 255));
+    }
+    for version in [sound(), sound().shifted(0).unwrap()] {
+        let phrase = read(&version.bytes()).unwrap();
+        assert!(phrase.bells.iter().all(|bell| bell.rest == 0));
+        assert!(phrase.strokes.iter().all(|stroke| stroke.rest == 0));
+    }
+}
+
+#[test]
+fn the_first_rule_in_order_answers_in_version_3() {
+    assert_eq!(answer_3(|_| ()), None);
+    assert_eq!(answer_3(|d| d.drivers = 0), Some((4, 5)));
+    let shift_and_count = |d: &mut Draft| (d.shift, d.bell_count) = (Some(25), 0);
+    assert_eq!(answer_3(shift_and_count), Some((19, 6)));
+    assert_eq!(answer_3(|d| d.bell_count = 0), Some((5, 7)));
+
+    // Bells of 9 bytes from 8 on. A rest is 6, as is any other field; 6 comes before 7 of its own bell and after 7 of one
+    // before it.
+    let (bell_2, bell_3) = (8 + 18, 8 + 27);
+    for rest in [0, 5_000] {
+        let doubled = answer_3(|d| (d.bells[2].written, d.bells[2].rest) = (12, Some(rest)));
+        assert_eq!(doubled, Some((7, bell_2)));
+    }
+    let both = answer_3(|d| (d.bells[2].written, d.bells[2].rest) = (12, Some(5_001)));
+    assert_eq!(both, Some((6, bell_2)));
+    let two_bells = answer_3(|d| (d.bells[2].written, d.bells[3].rest) = (12, Some(5_001)));
+    assert_eq!(two_bells, Some((7, bell_2)));
+    assert_eq!(
+        answer_3(|d| d.bells[3].rest = Some(5_001)),
+        Some((6, bell_3))
+    );
+    let rest_and_hold = answer_3(|d| (d.bells[3].ca, d.bells[2].rest) = (0, Some(5_001)));
+    assert_eq!(rest_and_hold, Some((6, bell_2)));
+
+    // The stroke count and the notes follow.
+    let (count, note_4) = (8 + 45, 8 + 45 + 1 + 4 * 14);
+    let rest_and_count = answer_3(|d| (d.bells[4].rest, d.stroke_count) = (Some(5_001), 65));
+    assert_eq!(rest_and_count, Some((6, 8 + 36)));
+    assert_eq!(answer_3(|d| d.stroke_count = 65), Some((8, count)));
+    assert_eq!(answer_3(|d| d.notes[4].length = 18), Some((9, note_4)));
+    let note =
+        |key, ra, waits: Vec<u8>| answer_3(|d| d.notes[4] = DraftNote::new(key, ra, 5, 9, waits));
+    assert_eq!(note(118, 6, vec![4]), Some((11, note_4)));
+    assert_eq!(note(118, 5, vec![4]), Some((10, note_4)));
+    assert_eq!(note(119, 5, vec![4]), Some((12, note_4)));
+    assert_eq!(answer_3(|d| d.remaining = vec![0]), Some((3, note_4 + 14)));
+}
+
+#[test]
+fn a_head_of_one_version_before_the_body_of_another_is_read_by_the_head() {
     // P's bell count is taken for the shift 2, its first written key for the bell count.
     assert_eq!(refused(&p_with(0, 2)), Some((6, 8)));
     // The shift -3 is taken for a bell count of 253; the shift 1 for one of 1, before what is no bell.
@@ -343,6 +419,31 @@ fn a_head_of_one_version_before_the_rest_of_the_other_is_read_by_the_head() {
     let mut file = p_shifted_with(0, 1);
     file[6] = 1;
     assert_eq!(refused(&file), Some((6, 7)));
+    // Before bells of 7 bytes, and in version 2 before bells of 9.
+    assert_eq!(refused(&p_shifted_with(0, 3)), Some((6, 17)));
+    assert_eq!(refused(&p_rested_with(&[(0, 2)])), Some((6, 15)));
+}
+
+#[test]
+fn p_in_version_3_cut_anywhere_is_refused_where_the_cut_field_or_record_begins() {
+    for length in 0..P_RESTED.len() {
+        let mut file = P_RESTED[..length].to_vec();
+        let number = if length < 5 { 2 } else { 3 };
+        let place = match length {
+            0..5 => 0,
+            5 => 5,
+            6 => 6,
+            7 => 7,
+            8..17 => 8,
+            17..26 => 17,
+            26 => 26,
+            27..41 => 27,
+            _ => 41,
+        };
+        assert_eq!(refused(&file), Some((2, 0)), "the count is wrong");
+        correct_count(&mut file, 0);
+        assert_eq!(refused(&file), Some((number, place)), "{length} bytes");
+    }
 }
 
 #[test]
@@ -401,5 +502,10 @@ fn bytes_that_remain_are_refused_where_they_begin() {
         assert_eq!(refused(&file), Some((2, 0)));
         correct_count(&mut file, 0);
         assert_eq!(refused(&file), Some((3, 51)));
+        let mut file = P_RESTED.to_vec();
+        file.resize(P_RESTED.len() + more, 0);
+        assert_eq!(refused(&file), Some((2, 0)));
+        correct_count(&mut file, 0);
+        assert_eq!(refused(&file), Some((3, 55)));
     }
 }

@@ -6,7 +6,7 @@ mod tried_notes;
 
 use reference::check::{HOST_WORDS, check};
 use reference::draft::{Draft, correct_count};
-use reference::examples::{P, P_SHIFTED};
+use reference::examples::{P, P_RESTED, P_SHIFTED};
 use reference::note_order::{
     ENOUGH_WORDS, OF_FILES, OF_PHRASES, file_was_10, phrase_was_10, tried_notes,
 };
@@ -18,7 +18,7 @@ use tried_notes::demand_exactly;
 /// Room for every file.
 const ENOUGH: usize = 4_096;
 
-/// P in one version, where its two notes begin, and a key that finds no bell: 62, which is only written, in version 2
+/// P in one version, where its two notes begin, and a key that finds no bell: 62, which is only written, from version 2 on
 /// with the three semitones that the shift takes away.
 struct Example {
     file: &'static [u8],
@@ -26,7 +26,7 @@ struct Example {
     no_bell: u32,
 }
 
-const EXAMPLES: [Example; 2] = [
+const EXAMPLES: [Example; 3] = [
     Example {
         file: &P,
         notes_at: [22, 36],
@@ -35,6 +35,11 @@ const EXAMPLES: [Example; 2] = [
     Example {
         file: &P_SHIFTED,
         notes_at: [23, 37],
+        no_bell: 65,
+    },
+    Example {
+        file: &P_RESTED,
+        notes_at: [27, 41],
         no_bell: 65,
     },
 ];
@@ -103,7 +108,7 @@ fn the_first_of_11_10_and_12_answers() {
 #[test]
 fn p_with_a_key_and_times_wrong_is_11() {
     type Bytes = [(usize, u8); 2];
-    let examples: [(&[u8], Bytes, u64); 8] = [
+    let examples: [(&[u8], Bytes, u64); 10] = [
         // A key that is only written, with ra 6 above rb 5; d 50331655; ra 1 above rb 0; rb 16777216.
         (&P, [(23, 0x3E), (27, 0x06)], 22),
         (&P, [(23, 0x3E), (32, 0x03)], 22),
@@ -114,6 +119,8 @@ fn p_with_a_key_and_times_wrong_is_11() {
         (&P_SHIFTED, [(24, 0x3C), (33, 0x03)], 23),
         (&P_SHIFTED, [(38, 0x4A), (42, 0x01)], 37),
         (&P_SHIFTED, [(38, 0x4A), (43, 0x01)], 37),
+        (&P_RESTED, [(28, 0x3C), (32, 0x06)], 27),
+        (&P_RESTED, [(42, 0x4A), (47, 0x01)], 41),
     ];
     for (example, [key, time], place) in examples {
         let with = |bytes: &[(usize, u8)]| {
@@ -226,6 +233,6 @@ fn every_tried_note_has_the_answer_that_is_due() {
     }
     demand_exactly("phrases with tried notes", &written, OF_PHRASES).unwrap();
     demand_exactly("files with tried notes", &are_read, OF_FILES).unwrap();
-    // In each of 4 notes in 2 versions a wrong key and wrong times, with any list: 8 x 8 x 9, and of files 4 x 8 x 6.
-    assert_eq!((phrases_changed, files_changed), (8 * 576, 8 * 192));
+    // In each of 4 notes in 3 versions a wrong key and wrong times, with any list: 8 x 8 x 9, and of files 4 x 8 x 6.
+    assert_eq!((phrases_changed, files_changed), (12 * 576, 12 * 192));
 }

@@ -1,16 +1,16 @@
-//! The paper's steps: at every candidate that random walks come to, its one comparison says what document 01's two say;
-//! and states worked by hand.
+//! The paper's steps: at every candidate that random walks come to, its one comparison says what document 01's two say, with
+//! rests too; and states worked by hand.
 
 #[path = "common/counts.rs"]
 mod counts;
 
 use counts::Counts;
 use reference::check::HOST_WORDS;
-use reference::examples::{m6, m7, marked};
+use reference::examples::{m6, m7, marked, rested_examples};
 use reference::paper::{Steps, steps};
-use reference::random::{Case, at_zero_case, case};
+use reference::random::{Case, at_zero_case, case, rested_case};
 use reference::range::Range;
-use reference::reading::{Phrase, read};
+use reference::reading::{Phrase, Stroke, read};
 use reference::walk::{Choice, Edge, Outcome, walk_observed};
 
 /// So many phrases of the stream, and as many with calls at 0.
@@ -187,6 +187,216 @@ fn one_comparison_says_what_two_say_at_every_candidate() {
     met.phrases.demand(met.phrase_count, 5).unwrap();
     met.candidates.demand(met.candidate_count, 100).unwrap();
     met.wrong.demand(met.candidate_count, 1_000).unwrap();
+}
+
+/// How long a stroke has to rest after one of its waits, by some rule.
+type Rest = fn(&Stroke, usize) -> u64;
+
+const RIGHT: Rest = |stroke, wait| stroke.rest_after(wait);
+const NONE: Rest = |_, _| 0;
+/// Only where the note does not list the predecessor.
+const UNLISTED: Rest = |stroke, wait| match stroke.added == Some(wait) {
+    true => stroke.rest,
+    false => 0,
+};
+
+/// Whether thigh leaves a shared wait out: by its rest for `j`, which goes before, and for `i`.
+type LeavesOut = fn(u64, u64) -> bool;
+
+/// How rests count where it is decided whether a candidate may go next.
+struct Rests {
+    rmin: Rest,
+    rmax: Rest,
+    thigh: Rest,
+    leaves_out: LeavesOut,
+}
+
+const RULE: Rests = Rests {
+    rmin: RIGHT,
+    rmax: RIGHT,
+    thigh: RIGHT,
+    leaves_out: |j, i| j <= i,
+};
+
+/// Rules that are not those of request #106. What is tried here has to tell each of them from it.
+const WRONG_RESTS: [(&str, Rests); 8] = [
+    ("no rest in Rmin", Rests { rmin: NONE, ..RULE }),
+    ("no rest in Rmax", Rests { rmax: NONE, ..RULE }),
+    // A shared wait is left out by its rests all the same.
+    (
+        "no rest in thigh",
+        Rests {
+            thigh: NONE,
+            ..RULE
+        },
+    ),
+    (
+        "all shared waits left out",
+        Rests {
+            leaves_out: |_, _| true,
+            ..RULE
+        },
+    ),
+    (
+        "no shared wait left out",
+        Rests {
+            leaves_out: |_, _| false,
+            ..RULE
+        },
+    ),
+    (
+        "shared waits of equal rests not left out",
+        Rests {
+            leaves_out: |j, i| j < i,
+            ..RULE
+        },
+    ),
+    (
+        "only shared waits of equal rests left out",
+        Rests {
+            leaves_out: |j, i| j == i,
+            ..RULE
+        },
+    ),
+    (
+        "no rest after a listed predecessor",
+        Rests {
+            rmin: UNLISTED,
+            rmax: UNLISTED,
+            thigh: UNLISTED,
+            ..RULE
+        },
+    ),
+];
+
+impl Rests {
+    /// Whether the candidate may go next if rests count so.
+    fn may_go(&self, choice: &Choice) -> bool {
+        let strokes = &choice.phrase.strokes;
+        let i = &strokes[choice.candidate.stroke];
+        let ends = |wait: usize| choice.state.ends[wait];
+        let low = i.waits.iter().map(|&w| ends(w).low + (self.rmin)(i, w));
+        let est = low.fold(i.call.low.max(choice.state.available[0].low), u64::max);
+        let rmax = |stroke: &Stroke| {
+            let high = stroke.waits.iter();
+            let high = high.map(|&w| ends(w).high + (self.rmax)(stroke, w));
+            high.fold(stroke.call.high, u64::max)
+        };
+        let candidates = || choice.candidates.iter().map(|c| c.stroke);
+        let first_rmax = candidates().map(|stroke| rmax(&strokes[stroke])).min();
+        let twc = choice.state.available[0].high.max(first_rmax.unwrap_or(0));
+        let goes_before = |&j: &usize| choice.phrase.goes_before(j, choice.candidate.stroke);
+        let mut before = candidates().filter(goes_before);
+        est <= twc && before.all(|j| est < self.th(choice, &strokes[j], i))
+    }
+
+    /// From when on `j` is certainly ready where `i` is.
+    fn th(&self, choice: &Choice, j: &Stroke, i: &Stroke) -> u64 {
+        let counts = |wait: usize| {
+            let (for_j, for_i) = (j.rest_after(wait), i.rest_after(wait));
+            !i.waits.contains(&wait) || !(self.leaves_out)(for_j, for_i)
+        };
+        (j.waits.iter())
+            .filter(|&&wait| counts(wait))
+            .map(|&wait| choice.state.ends[wait].high + (self.thigh)(j, wait))
+            .fold(j.call.high, u64::max)
+    }
+}
+
+/// For waits that a candidate shares with one that goes before: whether their rest is larger for that, equal or smaller.
+fn shared_rests(choice: &Choice) -> [bool; 3] {
+    let i = &choice.phrase.strokes[choice.candidate.stroke];
+    let mut met = [false; 3];
+    for j in choice.candidates {
+        if choice.phrase.goes_before(j.stroke, choice.candidate.stroke) {
+            let j = &choice.phrase.strokes[j.stroke];
+            for &wait in j.waits.iter().filter(|wait| i.waits.contains(wait)) {
+                let (for_j, for_i) = (j.rest_after(wait), i.rest_after(wait));
+                // Two strokes of one bell are never candidates together.
+                assert!(for_j == 0 || for_i == 0);
+                let kinds = [for_j > for_i, for_j == for_i, for_j < for_i];
+                met = [0, 1, 2].map(|kind| met[kind] || kinds[kind]);
+            }
+        }
+    }
+    met
+}
+
+#[test]
+fn rests_decide_at_candidates_of_every_kind() {
+    let mut shared = Counts::new(
+        "candidates with a shared wait that rests for the one before",
+        ["longer", "equally long", "shorter"],
+    );
+    let mut wrong = Counts::new(
+        "candidates that wrong rules for rests answer otherwise",
+        WRONG_RESTS.map(|(name, _)| name),
+    );
+    let (mut phrases, mut candidates) = (0, 0);
+    for case in (0..PHRASES).map(|number| rested_case(SEED, number)) {
+        let Ok(phrase) = read(&case.file) else {
+            continue;
+        };
+        phrases += 1;
+        walk_observed(&phrase, case.table_words, |choice, edge| {
+            let steps = steps(choice);
+            assert_agree(choice, &steps, edge);
+            assert_eq!(RULE.may_go(choice), steps.is_eligible, "{choice:?}");
+            candidates += 1;
+            shared.add(shared_rests(choice));
+            wrong.add(WRONG_RESTS.map(|(_, rests)| rests.may_go(choice) != steps.is_eligible));
+        });
+    }
+    println!("{phrases} phrases, {candidates} candidates");
+    shared.print();
+    wrong.print();
+    assert!(phrases > PHRASES / 2 && candidates > 1_000_000);
+    shared.demand(candidates, 2_000).unwrap();
+    wrong.demand(candidates, 20_000).unwrap();
+}
+
+/// The example of this name, worked out where stroke 0 alone has started.
+fn work_out_rested(name: &str, stroke: usize) -> Worked {
+    let examples = rested_examples();
+    let example = examples.iter().find(|example| example.name == name);
+    work_out(&example.unwrap().draft.bytes(), &[0], stroke)
+}
+
+#[test]
+fn a_wait_that_rests_longer_for_the_one_before_counts() {
+    let name = "a shared wait that rests longer for the one before";
+    let Worked { ready, steps, .. } = work_out_rested(name, 2);
+    assert_eq!(ready, ranges([(7, 9), (2, 4)]));
+    assert_eq!((steps.est, steps.twc, steps.thigh), (2, 4, Some(9)));
+    assert_eq!((steps.eft, steps.lft, steps.is_eligible), (5, 7, true));
+    // Stroke 1 itself rests for too long to go next.
+    let Worked { steps, .. } = work_out_rested(name, 1);
+    assert_eq!((steps.est, steps.twc, steps.thigh), (7, 4, None));
+    assert!(!steps.is_eligible);
+}
+
+#[test]
+fn a_wait_that_rests_equally_long_or_shorter_for_the_one_before_is_left_out() {
+    let name = "a shared wait without a rest";
+    let Worked { ready, steps, .. } = work_out_rested(name, 2);
+    assert_eq!(ready, ranges([(2, 4), (2, 4)]));
+    assert_eq!((steps.est, steps.twc, steps.thigh), (2, 4, Some(0)));
+    assert!(!steps.is_eligible);
+
+    let name = "a shared wait that rests shorter for the one before";
+    let Worked { ready, steps, .. } = work_out_rested(name, 2);
+    assert_eq!(ready, ranges([(2, 12), (7, 17)]));
+    assert_eq!((steps.est, steps.twc, steps.thigh), (7, 12, Some(0)));
+    assert!(!steps.is_eligible);
+}
+
+#[test]
+fn a_rest_of_the_one_before_lets_a_lesser_stroke_go() {
+    // Stroke 0 is no wait of stroke 2, so its end at 2 counts for stroke 1 with the rest of 3.
+    let Worked { ready, steps, .. } = work_out_rested("a lesser stroke goes in between", 2);
+    assert_eq!(ready, ranges([(5, 5), (0, 0)]));
+    assert_eq!((steps.est, steps.twc, steps.thigh), (2, 2, Some(5)));
+    assert_eq!((steps.eft, steps.lft, steps.is_eligible), (6, 6, true));
 }
 
 /// What is said of a candidate in the one state of a walk in which just these strokes have started.

@@ -3,6 +3,10 @@
 
 #[path = "common/counts.rs"]
 mod counts;
+#[path = "common/rested_kinds.rs"]
+mod rested_kinds;
+#[path = "common/rested_runs.rs"]
+mod rested_runs;
 #[path = "common/shifted_kinds.rs"]
 mod shifted_kinds;
 #[path = "common/tally.rs"]
@@ -20,9 +24,12 @@ use reference::examples::*;
 use reference::note_order::file_was_10;
 use reference::playing::{Played, literally, play, play_by, read_playing};
 use reference::random::{
-    CASES, CASES_PER_SHIFTED, Generator, SEED, longest, played_case, scenario, shifted_played_case,
+    CASES, CASES_PER_RESTED, CASES_PER_SHIFTED, Generator, PlayedCase, SEED, longest, played_case,
+    rested_played_case, scenario, shifted_played_case,
 };
-use reference::reading::{Refusal, read};
+use reference::reading::{Phrase, Refusal, read};
+use rested_kinds::RestedKinds;
+use rested_runs::RestedRuns;
 use shifted_kinds::ShiftedKinds;
 use tally::Tally;
 use was_10::WasTen;
@@ -169,6 +176,7 @@ fn strokes_of_one_bell_wait_for_each_other() {
         transposition: 0,
         ca: 1,
         cb: 9,
+        rest: None,
         rank: 0,
     };
     let note = |key| DraftNote::new(key, 0, 9, 3_600_000, vec![]);
@@ -180,6 +188,57 @@ fn strokes_of_one_bell_wait_for_each_other() {
     assert_played(&file, &playing(&calls), &expected);
 }
 
+/// Free calls and holds, as in `free`: each bell's rest and rank, then each stroke's bell and listed waits.
+fn free_rested(drivers: u8, bells: &[(u16, u8)], strokes: &[(u8, &[u8])]) -> Vec<u8> {
+    let bells: Vec<RestedBell> = (bells.iter())
+        .map(|&(rest, rank)| (1, 100, rest, rank))
+        .collect();
+    let strokes: Vec<RestedStroke> = (strokes.iter())
+        .map(|&(bell, waits)| (bell, 0, 100, 3_600_000, waits))
+        .collect();
+    rested(drivers, &bells, &strokes).bytes()
+}
+
+#[test]
+fn a_stroke_starts_when_its_bell_has_rested() {
+    assert_played(&P_RESTED, &P_PLAYING, &[(5, 7), (0, 4)]);
+    for rest in [0, 1, 7, 5_000] {
+        let file = free_rested(2, &[(rest, 1)], &[(0, &[]), (0, &[]), (0, &[])]);
+        let rest = u64::from(rest);
+        // 0 at 4..9; 1 in the millisecond in which the bell has rested, and 2 as well.
+        let (first, second) = (9 + rest, 9 + rest + 2 + rest);
+        let expected = [(4, 9), (first, first + 2), (second, second + 3)];
+        let calls = playing(&[(4, 5), (0, 2), (0, 3)]);
+        assert_played(&file, &calls, &expected);
+        // The same if predecessors are listed too, or strokes further back.
+        let file = free_rested(2, &[(rest as u16, 1)], &[(0, &[]), (0, &[0]), (0, &[0, 1])]);
+        assert_played(&file, &calls, &expected);
+    }
+    // Called when it has rested, or later.
+    let file = free_rested(1, &[(7, 1)], &[(0, &[]), (0, &[])]);
+    for (call, start) in [(11, 12), (12, 12), (13, 13), (100, 100)] {
+        let expected = [(0, 5), (start, start + 1)];
+        assert_played(&file, &playing(&[(0, 5), (call, 1)]), &expected);
+    }
+}
+
+#[test]
+fn a_bell_that_rests_keeps_no_driver_and_no_other_bell() {
+    // Stroke 1 goes before stroke 2 but rests from 2 to 5; stroke 2 holds until 6 and is not stopped.
+    let file = free_rested(1, &[(3, 1), (9, 2)], &[(0, &[]), (0, &[]), (1, &[])]);
+    let calls = [(0, 2), (0, 2), (0, 4)];
+    assert_played(&file, &playing(&calls), &[(0, 2), (6, 8), (2, 6)]);
+    // Held for 3 only, it frees the driver when the rest is over; for 2, the driver waits for one millisecond.
+    let calls = [(0, 2), (0, 2), (0, 3)];
+    assert_played(&file, &playing(&calls), &[(0, 2), (5, 7), (2, 5)]);
+    let calls = [(0, 2), (0, 2), (0, 2)];
+    assert_played(&file, &playing(&calls), &[(0, 2), (5, 7), (2, 4)]);
+    // A stroke of another bell that lists stroke 0 does not rest, whatever its own bell's rest is.
+    let file = free_rested(2, &[(50, 1), (60, 2)], &[(0, &[]), (1, &[0]), (1, &[0])]);
+    let calls = [(0, 2), (0, 3), (0, 4)];
+    assert_played(&file, &playing(&calls), &[(0, 2), (2, 5), (65, 69)]);
+}
+
 #[test]
 fn strokes_wait_for_those_of_the_bell_that_they_really_strike() {
     let bell = |written, rank| DraftBell {
@@ -187,6 +246,7 @@ fn strokes_wait_for_those_of_the_bell_that_they_really_strike() {
         transposition: 0,
         ca: 1,
         cb: 9,
+        rest: None,
         rank,
     };
     let note = |key| DraftNote::new(key, 0, 9, 3_600_000, vec![]);
@@ -233,6 +293,7 @@ fn a_phrase_that_the_check_refuses_is_played() {
             transposition: 0,
             ca: 2,
             cb: 2,
+            rest: None,
             rank: 0,
         }],
         vec![DraftNote::new(60, 8, 9, 1, vec![])],
@@ -256,6 +317,7 @@ fn the_longest_run_ends_after_its_last_call_by_all_holds() {
         transposition: 0,
         ca: 1,
         cb: 5_000,
+        rest: None,
         rank: 255,
     };
     let notes = vec![DraftNote::new(60, 0, 3_600_000, 3_600_000, vec![]); 64];
@@ -263,6 +325,16 @@ fn the_longest_run_ends_after_its_last_call_by_all_holds() {
     let start = |number: u64| 3_600_000 + 5_000 * number;
     let expected: Vec<(u64, u64)> = (0..64).map(|n| (start(n), start(n + 1))).collect();
     assert_eq!(expected[63].1, 3_920_000);
+    assert_played(&file, &playing(&[(3_600_000, 5_000); 64]), &expected);
+}
+
+#[test]
+fn the_longest_run_with_rests_ends_later_by_all_of_them() {
+    let strokes: [RestedStroke; 64] = [(0, 0, 3_600_000, 3_600_000, &[]); 64];
+    let file = rested(8, &[(1, 5_000, 5_000, 255)], &strokes).bytes();
+    let start = |number: u64| 3_600_000 + 10_000 * number;
+    let expected: Vec<(u64, u64)> = (0..64).map(|n| (start(n), start(n) + 5_000)).collect();
+    assert_eq!(expected[63].1, 4_235_000);
     assert_played(&file, &playing(&[(3_600_000, 5_000); 64]), &expected);
 }
 
@@ -417,6 +489,7 @@ fn reading_refuses_first_then_17_then_18() {
     ]
     .into_iter()
     .chain(refused_of_version_2())
+    .chain(refused_of_version_3())
     {
         for playing in [&P_PLAYING[..], &out_of_range, &malformed, &too_many, &[]] {
             assert_eq!(refused(&file, playing), Some((number, place)));
@@ -424,18 +497,19 @@ fn reading_refuses_first_then_17_then_18() {
     }
 }
 
-/// So late a last call makes the literal run slow.
+/// So late a last call, or so long rests, make the literal run slow.
 const LONG: u64 = 5_000;
 
-fn last_call(scenario: &Scenario) -> u64 {
-    scenario.calls.iter().copied().max().unwrap_or(0)
+fn last_call_or_rest(phrase: &Phrase, scenario: &Scenario) -> u64 {
+    let rests: u64 = phrase.strokes.iter().map(|stroke| stroke.rest).sum();
+    scenario.calls.iter().copied().fold(rests, u64::max)
 }
 
-#[test]
-fn time_that_jumps_gives_the_literal_run() {
+/// So many cases of a stream, with at most 20 long runs; gives how many runs were short and long.
+fn assert_literal_runs(cases: u64, case: fn(u64, u64) -> PlayedCase) -> (u64, u64) {
     let (mut short, mut long) = (0, 0);
-    for number in 0..CASES {
-        let case = played_case(SEED, number);
+    for number in 0..cases {
+        let case = case(SEED, number);
         let Ok(phrase) = read(&case.file) else {
             continue;
         };
@@ -447,7 +521,7 @@ fn time_that_jumps_gives_the_literal_run() {
                 read_playing(&phrase, &playing_bytes(&scenario)).as_ref(),
                 Ok(&scenario)
             );
-            let seen = match last_call(&scenario) {
+            let seen = match last_call_or_rest(&phrase, &scenario) {
                 0..LONG => &mut short,
                 _ if long < 20 => &mut long,
                 _ => continue,
@@ -461,7 +535,20 @@ fn time_that_jumps_gives_the_literal_run() {
         }
     }
     println!("runs that are the same: {short} short ones, {long} long ones");
+    (short, long)
+}
+
+#[test]
+fn time_that_jumps_gives_the_literal_run() {
+    let (short, long) = assert_literal_runs(CASES, played_case);
     assert!(short > 20_000 && long == 20);
+}
+
+#[test]
+fn time_that_jumps_gives_the_literal_run_with_rests() {
+    let cases = CASES / CASES_PER_RESTED;
+    let (short, long) = assert_literal_runs(cases, rested_played_case);
+    assert!(short > 5_000 && long == 20);
 }
 
 #[test]
@@ -512,5 +599,34 @@ fn each_kind_of_answer_is_frequent_in_version_2() {
         assert!(often, "kind {kind} is rare");
     }
     kinds.demand_all(cases).unwrap();
+    was_10.demand(cases).unwrap();
+}
+
+#[test]
+fn each_kind_of_answer_and_rest_is_frequent_in_version_3() {
+    let cases = CASES / CASES_PER_RESTED;
+    let (mut kinds, mut runs) = (RestedKinds::new(), RestedRuns::new());
+    let mut was_10 = WasTen::default();
+    for number in 0..cases {
+        let case = rested_played_case(SEED, number);
+        was_10.add(file_was_10(&case.file));
+        let answer = play_by(&case.file, &case.playing, by_events);
+        if let (Ok(phrase), Ok(played)) = (read(&case.file), &answer) {
+            let scenario = read_playing(&phrase, &case.playing).expect("it was run");
+            runs.add(&phrase, &scenario, played);
+        }
+        let answer = answer.map_or_else(Refusal::host_number, |_| 0);
+        kinds.add(&case.file, answer);
+    }
+    (kinds.answers).print("playings of version 3, by their answer");
+    kinds.print();
+    runs.print();
+    was_10.print("of these");
+    for kind in (0..=12).chain([17, 18, 19]) {
+        let often = kinds.answers.counts[kind] * 400 >= cases;
+        assert!(often, "kind {kind} is rare");
+    }
+    kinds.demand_all(cases).unwrap();
+    runs.demand(cases).unwrap();
     was_10.demand(cases).unwrap();
 }

@@ -2,7 +2,9 @@
 
 use reference::check::check;
 use reference::printed::result;
-use reference::random::{CASES, CASES_PER_SHIFTED, Case, case, shifted_case};
+use reference::random::{
+    CASES, CASES_PER_RESTED, CASES_PER_SHIFTED, Case, case, rested_case, shifted_case,
+};
 use reference::reading;
 use reference::walk::words_per_state;
 use std::env;
@@ -129,4 +131,9 @@ fn the_program_agrees_on_random_phrases() {
 #[test]
 fn the_program_agrees_on_random_phrases_of_version_2() {
     compare(count().div_ceil(CASES_PER_SHIFTED), shifted_case);
+}
+
+#[test]
+fn the_program_agrees_on_random_phrases_of_version_3() {
+    compare(count().div_ceil(CASES_PER_RESTED), rested_case);
 }

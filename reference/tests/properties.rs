@@ -1,18 +1,29 @@
 //! What must hold of every answer, whatever the phrase.
 
-use reference::check::{Answer, HOST_WORDS, check_phrase};
+use reference::check::{Answer, HOST_WORDS, check, check_phrase};
 use reference::draft::{Draft, DraftNote};
-use reference::random::{self, Generator, TINY, case};
+use reference::events::by_events;
+use reference::random::{
+    self, Case, Generator, TINY, case, rested_case, scenario, shifted_case, small_rested,
+};
 use reference::reading::{Phrase, Stroke, read};
 use reference::report::check_and_text;
 use reference::writing::EditedPhrase;
 
 const FULL: u64 = 13;
 
+/// Cases of version 1 and of version 3.
+fn cases(seed: u64, count: u64) -> impl Iterator<Item = Case> {
+    let rested = (0..count / 2).map(move |number| rested_case(seed, number));
+    (0..count)
+        .map(move |number| case(seed, number))
+        .chain(rested)
+}
+
 #[test]
 fn accepted_ends_lie_where_they_must() {
-    for number in 0..5_000 {
-        let Ok(phrase) = read(&case(2, number).file) else {
+    for case in cases(2, 5_000) {
+        let Ok(phrase) = read(&case.file) else {
             continue;
         };
         let check = check_phrase(&phrase, HOST_WORDS);
@@ -26,9 +37,10 @@ fn accepted_ends_lie_where_they_must() {
             assert!(ends.low <= ends.high && ends.high <= stroke.due);
             assert_eq!(response.low + stroke.call.low, ends.low);
             assert_eq!(response.high + stroke.call.low, ends.high);
-            // No stroke can end before those it waits for and its own shortest hold.
+            // No stroke can end before those it waits for, its rest and its own shortest hold.
             for &wait in &stroke.waits {
-                assert!(ends.low >= check.ends[wait].low + stroke.hold.low);
+                let rested = check.ends[wait].low + stroke.rest_after(wait);
+                assert!(ends.low >= rested + stroke.hold.low);
             }
         }
     }
@@ -36,8 +48,7 @@ fn accepted_ends_lie_where_they_must() {
 
 #[test]
 fn a_longer_table_changes_only_13() {
-    for number in 0..5_000 {
-        let case = case(3, number);
+    for case in cases(3, 5_000) {
         let Ok(phrase) = read(&case.file) else {
             continue;
         };
@@ -165,4 +176,88 @@ fn bells_that_are_moved_by_the_shift_are_struck_by_the_same_notes() {
     }
     println!("moved with their bells: {accepted} accepted, {missing} with a bell out of range");
     assert!(accepted > 500 && missing > 100);
+}
+
+/// The draft of a phrase that was read.
+fn drafted(phrase: &Phrase) -> Draft {
+    Draft::of(&EditedPhrase::from(phrase)).expect("what was read fits its bytes")
+}
+
+#[test]
+fn version_3_with_all_rests_0_has_the_answers_of_version_2() {
+    let mut random = Generator::new(106);
+    let (mut phrases, mut accepted) = (0, 0);
+    for number in 0..2_000 {
+        let case = shifted_case(106, number);
+        let Ok(phrase) = read(&case.file) else {
+            continue;
+        };
+        if phrase.version != 2 {
+            continue;
+        }
+        let file = drafted(&phrase).rested(|| 0).bytes();
+        let other = read(&file).expect("only rests are added");
+        assert_eq!((other.version, other.shift), (3, phrase.shift));
+        assert_eq!(other.bells, phrase.bells);
+        assert_eq!(other.strokes, phrase.strokes);
+        let due = check_and_text(&case.file, case.table_words);
+        assert!(check_and_text(&file, case.table_words) == due, "{number}");
+        let scenario = scenario(&mut random, &phrase);
+        assert!(by_events(&other, &scenario) == by_events(&phrase, &scenario));
+        phrases += 1;
+        accepted += u64::from(due.0.is_accepted());
+    }
+    println!("with rests of 0: {phrases} phrases, {accepted} accepted");
+    assert!(phrases > 1_000 && accepted > 300);
+}
+
+#[test]
+fn a_rest_of_a_bell_that_is_struck_once_changes_nothing() {
+    let mut random = Generator::new(107);
+    let mut changed = 0;
+    for number in 0..2_000 {
+        let case = rested_case(107, number);
+        let Ok(phrase) = read(&case.file) else {
+            continue;
+        };
+        let mut draft = drafted(&phrase);
+        for (number, bell) in draft.bells.iter_mut().enumerate() {
+            if phrase.strokes.iter().filter(|s| s.bell == number).count() <= 1 {
+                bell.rest = bell.rest.map(|_| random.range(0, 5_000) as u16);
+            }
+        }
+        let file = draft.bytes();
+        changed += u64::from(file != case.file);
+        let due = check_and_text(&case.file, case.table_words);
+        assert!(check_and_text(&file, case.table_words) == due, "{number}");
+    }
+    assert!(changed > 500, "{changed}");
+}
+
+/// Every note lists its bell's nearest earlier stroke as well, or none does, where it can be: nothing changes.
+#[test]
+fn a_predecessor_that_is_listed_too_changes_nothing() {
+    let mut random = Generator::new(108);
+    let (mut more, mut fewer) = (0, 0);
+    for _ in 0..2_000 {
+        let draft = small_rested(&mut random);
+        let draft = random::tuned(&mut random, draft);
+        let file = draft.bytes();
+        let phrase = read(&file).expect("drawn phrases are valid");
+        let due = check(&file, HOST_WORDS);
+        for lists in [true, false] {
+            let mut other = draft.clone();
+            for (note, stroke) in other.notes.iter_mut().zip(&phrase.strokes) {
+                let mut waits: Vec<u8> = stroke.waits.iter().map(|&wait| wait as u8).collect();
+                waits.retain(|&wait| lists || stroke.nearest != Some(wait.into()));
+                if waits.len() <= 4 {
+                    *note = DraftNote::new(note.key, note.ra, note.rb, note.due, waits);
+                }
+            }
+            let count = if lists { &mut more } else { &mut fewer };
+            *count += u64::from(other != draft);
+            assert_eq!(check(&other.bytes(), HOST_WORDS), due);
+        }
+    }
+    assert!(more > 500 && fewer > 500, "{more} {fewer}");
 }

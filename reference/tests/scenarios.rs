@@ -1,11 +1,13 @@
 //! Runs of the dispatch rule held against demand 3: all of small phrases, many of larger ones.
 //!
-//! SCENARIO_PHRASES small phrases (1,500) and SCENARIO_CASES cases of the stream (6,000), and for every four one of version 2.
+//! SCENARIO_PHRASES small phrases (1,500) and as many with rests, and SCENARIO_CASES cases of the stream (6,000), for every
+//! four one of version 2, and for every two one of version 3.
 
 use reference::check::{Answer, Check, HOST_WORDS, check, check_phrase};
 use reference::dispatch::{
     Breach, Scenario, State, Status, all_scenarios, demand_3, play, scenario_count, states,
 };
+use reference::draft::Draft;
 use reference::examples::*;
 use reference::random::{self, Case, Generator, Shape, TINY};
 use reference::range::Range;
@@ -41,10 +43,25 @@ fn marked_phrases_keep_demand_3_in_all_scenarios() {
     }
 }
 
+/// Their ends are reached, too: they were worked out by hand from the runs.
+#[test]
+fn phrases_with_rests_keep_demand_3_in_all_scenarios() {
+    for example in rested_examples() {
+        let (phrase, check) = accepted(&example.draft.bytes()).unwrap();
+        for scenario in all_scenarios(&phrase) {
+            assert_demand_3(&phrase, &check, &scenario);
+        }
+        let ends: Vec<u64> = example.ends.iter().map(|&(_, latest)| latest).collect();
+        assert_eq!(worst_ends(&phrase), ends, "{}", example.name);
+    }
+}
+
 /// The worst end of each stroke in all runs of a phrase.
 fn worst_ends(phrase: &Phrase) -> Vec<u64> {
     let strokes = &phrase.strokes;
-    let holds: u64 = strokes.iter().map(|stroke| stroke.hold.high).sum();
+    let holds: u64 = (strokes.iter())
+        .map(|stroke| stroke.hold.high + stroke.rest)
+        .sum();
     let last = strokes
         .iter()
         .map(|stroke| stroke.call.high)
@@ -91,13 +108,13 @@ fn a_phrase_that_is_on_time_in_all_runs_may_get_14() {
     assert!(late > 0 && late * 4 < phrases);
 }
 
-#[test]
-fn small_phrases_keep_demand_3_in_all_scenarios() {
+/// All runs of many small phrases; and most of the ends that are reported for them are reached.
+fn assert_all_scenarios(draw: impl Fn(&mut Generator) -> Draft) {
     let mut random = Generator::new(7);
     let (mut phrases, mut scenarios, mut strokes, mut reached) = (0, 0, 0, 0);
     let wanted = setting("SCENARIO_PHRASES", 1_500);
     while phrases < wanted {
-        let draft = random::draft(&mut random, &TINY);
+        let draft = draw(&mut random);
         let draft = random::tuned(&mut random, draft);
         let Some((phrase, check)) = accepted(&draft.bytes()) else {
             continue;
@@ -126,6 +143,16 @@ fn small_phrases_keep_demand_3_in_all_scenarios() {
     println!("both reported ends reached by {reached} of {strokes} strokes");
     // A check that reports far wider ends than runs reach would keep demand 3 as well.
     assert!(reached * 4 > strokes * 3);
+}
+
+#[test]
+fn small_phrases_keep_demand_3_in_all_scenarios() {
+    assert_all_scenarios(|random| random::draft(random, &TINY));
+}
+
+#[test]
+fn small_phrases_with_rests_keep_demand_3_in_all_scenarios() {
+    assert_all_scenarios(random::small_rested);
 }
 
 /// So many cases of a stream, where they are accepted.
@@ -166,6 +193,12 @@ fn shifted_phrases_keep_demand_3_in_random_scenarios() {
 }
 
 #[test]
+fn rested_phrases_keep_demand_3_in_random_scenarios() {
+    let cases = setting("SCENARIO_CASES", 6_000).div_ceil(2);
+    assert_random_scenarios(cases, random::rested_case);
+}
+
+#[test]
 fn with_nothing_uncertain_the_walk_is_the_one_run() {
     let shape = Shape {
         strokes: (0, 40),
@@ -180,8 +213,11 @@ fn with_nothing_uncertain_the_walk_is_the_one_run() {
     };
     let mut random = Generator::new(9);
     let mut late = 0;
-    for _ in 0..2_000 {
-        let draft = random::draft(&mut random, &shape);
+    for number in 0..2_000 {
+        let mut draft = random::draft(&mut random, &shape);
+        if number % 2 == 1 {
+            draft = draft.rested(|| random.below(20) as u16);
+        }
         let phrase = read(&random::tuned(&mut random, draft).bytes()).unwrap();
         let scenario = all_scenarios(&phrase).next().unwrap();
         let (starts, state) = play(&phrase, &scenario, 3_000);
@@ -225,6 +261,71 @@ fn a_run_is_what_the_rule_says() {
         free,
     });
     assert_eq!(states(&phrase, &scenario, 6), expected);
+}
+
+/// Stroke 1 is the second of bell 0, which rests for 3; stroke 2 is called then, has the lesser rank, and holds so long. Stroke
+/// 0 holds for 2, stroke 1 for 1.
+fn assert_run_with_rests(call: u64, hold: u64, expected: [([Status; 3], usize); 9]) {
+    let strokes: [RestedStroke; 3] = [(0, 0, 0, 99, &[]), (0, 0, 0, 99, &[]), (1, 0, 9, 99, &[])];
+    let file = rested(1, &[(1, 2, 3, 1), (1, 4, 0, 2)], &strokes).bytes();
+    let scenario = Scenario {
+        calls: vec![0, 0, call],
+        holds: vec![2, 1, hold],
+    };
+    let expected = expected.map(|(strokes, free)| State {
+        strokes: strokes.to_vec(),
+        free,
+    });
+    assert_eq!(states(&read(&file).unwrap(), &scenario, 8), expected);
+}
+
+#[test]
+fn a_run_with_rests_is_what_the_rule_says() {
+    use Status::{Done, Holding, Waiting};
+    // Done at 2, its bell has rested at 5; the driver is free from 2 on, and stroke 2 is called at 3 and holds until 7.
+    let in_between = [
+        ([Holding(2), Waiting, Waiting], 0),
+        ([Holding(2), Waiting, Waiting], 0),
+        ([Done, Waiting, Waiting], 1),
+        ([Done, Waiting, Holding(7)], 0),
+        ([Done, Waiting, Holding(7)], 0),
+        ([Done, Waiting, Holding(7)], 0),
+        ([Done, Waiting, Holding(7)], 0),
+        ([Done, Holding(8), Done], 0),
+        ([Done, Done, Done], 1),
+    ];
+    assert_run_with_rests(3, 4, in_between);
+    // Called at 5, stroke 2 finds that stroke 1 has rested and goes before it.
+    let after = [
+        ([Holding(2), Waiting, Waiting], 0),
+        ([Holding(2), Waiting, Waiting], 0),
+        ([Done, Waiting, Waiting], 1),
+        ([Done, Waiting, Waiting], 1),
+        ([Done, Waiting, Waiting], 1),
+        ([Done, Holding(6), Waiting], 0),
+        ([Done, Done, Holding(8)], 0),
+        ([Done, Done, Holding(8)], 0),
+        ([Done, Done, Done], 1),
+    ];
+    assert_run_with_rests(5, 2, after);
+}
+
+#[test]
+fn a_start_before_its_bell_has_rested_is_noticed() {
+    let (mut phrase, check) = accepted(&rested_examples()[0].draft.bytes()).unwrap();
+    let scenario = all_scenarios(&phrase).next().unwrap();
+    assert_eq!(demand_3(&phrase, &check.ends[..2], &scenario), Ok(()));
+    // A run that knows of no rest, or of a shorter one, on a bell that has one.
+    let wide = [Range::new(0, 20); 2];
+    phrase.strokes.iter_mut().for_each(|stroke| stroke.due = 20);
+    for rest in [0, 2] {
+        phrase.strokes[1].rest = rest;
+        let unrested = Breach::Unrested {
+            first: 0,
+            second: 1,
+        };
+        assert_eq!(demand_3(&phrase, &wide, &scenario), Err(unrested));
+    }
 }
 
 #[test]

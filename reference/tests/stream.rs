@@ -3,6 +3,10 @@
 
 #[path = "common/counts.rs"]
 mod counts;
+#[path = "common/rested_kinds.rs"]
+mod rested_kinds;
+#[path = "common/rested_verdicts.rs"]
+mod rested_verdicts;
 #[path = "common/shifted_kinds.rs"]
 mod shifted_kinds;
 #[path = "common/tally.rs"]
@@ -16,11 +20,13 @@ use reference::check::{Check, HOST_WORDS, check, check_phrase};
 use reference::draft::Draft;
 use reference::note_order::file_was_10;
 use reference::random::{
-    CASES, CASES_PER_SHIFTED, CASES_PER_WIDEST, Case, Generator, SEED, TINY, case, damaged, draft,
-    shifted_case, widest_case,
+    CASES, CASES_PER_RESTED, CASES_PER_SHIFTED, CASES_PER_WIDEST, Case, Generator, SEED, TINY,
+    case, damaged, draft, rested_case, shifted_case, small_rested, widest_case,
 };
 use reference::reading::{Phrase, Refusal, read};
 use reference::walk::{Outcome, Walk, capacity, walk};
+use rested_kinds::RestedKinds;
+use rested_verdicts::RestedVerdicts;
 use shifted_kinds::ShiftedKinds;
 use tally::Tally;
 use was_10::WasTen;
@@ -123,6 +129,37 @@ fn each_kind_of_answer_shift_and_key_is_frequent_in_version_2() {
 }
 
 #[test]
+fn each_kind_of_answer_and_rest_is_frequent_in_version_3() {
+    /// One byte more than a file of version 1, and the rests of 96 bells.
+    const LONGEST: usize = 2_015;
+
+    let cases = CASES / CASES_PER_RESTED;
+    let (mut kinds, mut was_10) = (RestedKinds::new(), WasTen::default());
+    let (mut verdicts, mut longest) = (RestedVerdicts::new(), 0);
+    for number in 0..cases {
+        let Case { file, table_words } = rested_case(SEED, number);
+        let answer = check(&file, table_words).host_number();
+        kinds.add(&file, answer);
+        verdicts.add(&file, table_words);
+        was_10.add(file_was_10(&file));
+        longest += u64::from(answer == 0 && file.len() == LONGEST);
+    }
+    (kinds.answers).print("version 3 in tables of many lengths");
+    kinds.print();
+    verdicts.print();
+    was_10.print("of these");
+    println!("{longest} of the longest files are accepted");
+    for kind in (0..=14).chain([19]) {
+        let often = kinds.answers.counts[kind] * 400 >= cases;
+        assert!(often, "kind {kind} is rare");
+    }
+    kinds.demand_all(cases).unwrap();
+    verdicts.demand_all(cases).unwrap();
+    was_10.demand(cases).unwrap();
+    assert!(longest >= 10);
+}
+
+#[test]
 fn accepted_phrases_have_all_shapes() {
     let mut by_strokes = [0; 65];
     let mut by_drivers = [0; 9];
@@ -205,7 +242,7 @@ fn files_are_as_long_as_they_can_be() {
     println!("{longest} of the longest files are read, {accepted} of them accepted");
     assert!(longest >= 50 && accepted >= 20);
 
-    let (mut by_number, mut far, mut too_long) = ([0; 13], 0, 0);
+    let (mut by_number, mut far, mut too_long) = ([0; 20], 0, 0);
     for seen in STREAM.iter().filter(|seen| seen.file.len() > LONG) {
         if let Err(refusal) = seen.read {
             by_number[refusal.number as usize] += 1;
@@ -260,6 +297,7 @@ fn a_phrase_is_read_as_it_was_drawn() {
             assert_read_as_drawn(&draft);
             shifted += 1;
         }
+        assert_read_as_drawn(&small_rested(&mut random));
     }
     assert!(shifted > 400, "{shifted}");
 }
@@ -294,9 +332,12 @@ fn assert_read_as_drawn(draft: &Draft) {
         let same_bell = (0..number)
             .rev()
             .find(|&i| phrase.strokes[i].bell == stroke.bell);
+        let rest = u64::from(bell.rest.unwrap_or(0));
         for i in 0..64 {
             let awaited = note.waits.contains(&(i as u8)) || same_bell == Some(i);
             assert_eq!(stroke.waits.contains(&i), awaited);
+            let due = if same_bell == Some(i) { rest } else { 0 };
+            assert_eq!(stroke.rest_after(i), due);
         }
     }
     assert_eq!(check_phrase(&phrase, 99), check(&draft.bytes(), 99));

@@ -2,6 +2,8 @@
 
 #[path = "common/counts.rs"]
 mod counts;
+#[path = "common/rested_writing.rs"]
+mod rested_writing;
 #[path = "common/shifted_writing.rs"]
 mod shifted_writing;
 #[path = "common/stored.rs"]
@@ -13,25 +15,28 @@ mod was_10;
 
 use reference::draft::Draft;
 use reference::examples::*;
+use reference::layout::Layout;
 use reference::note_order::phrase_was_10;
 use reference::random::{
-    CASES, CASES_PER_SHIFTED, EditedCase, Generator, SEED, edited_case, longest,
-    shifted_edited_case,
+    CASES, CASES_PER_RESTED, CASES_PER_SHIFTED, EditedCase, Generator, SEED, edited_case, longest,
+    rested_edited_case, shifted_edited_case,
 };
 use reference::reading::{Refusal, read};
 use reference::writing::{EditedBell, EditedNote, EditedPhrase, write, write_into};
+use rested_writing::RestedWriting;
 use shifted_writing::ShiftedWriting;
 use stored::stored_files;
 use tally::Tally;
 use was_10::WasTen;
 
-/// N, T as a byte, ca, cb, p.
+/// N, T as a byte, ca, cb, p; without a rest.
 fn bell([written, transposition, ca, cb, rank]: [u32; 5]) -> EditedBell {
     EditedBell {
         written,
         transposition,
         ca,
         cb,
+        rest: 0,
         rank,
     }
 }
@@ -61,6 +66,10 @@ fn phrase(drivers: u32, bells: &[EditedBell], notes: &[EditedNote]) -> EditedPhr
         bells: [bell([u32::MAX; 5]); 96],
         notes: [note([u32::MAX; 4], &[u32::MAX; 4]); 64],
     };
+    phrase
+        .bells
+        .iter_mut()
+        .for_each(|bell| bell.rest = u32::MAX);
     phrase.bells[..bells.len()].copy_from_slice(bells);
     phrase.notes[..notes.len()].copy_from_slice(notes);
     phrase
@@ -109,6 +118,14 @@ fn shifted(mut phrase: EditedPhrase, shift: i8) -> EditedPhrase {
     for note in &mut phrase.notes[..phrase.note_count as usize] {
         note.key = note.key.checked_add_signed(-i32::from(shift)).unwrap();
     }
+    phrase
+}
+
+/// The same phrase in version 3 with this shift and these rests of its two bells.
+fn with_rests(phrase: EditedPhrase, shift: i8, rests: [u32; 2]) -> EditedPhrase {
+    let mut phrase = shifted(phrase, shift);
+    phrase.version = 3;
+    (phrase.bells[0].rest, phrase.bells[1].rest) = (rests[0], rests[1]);
     phrase
 }
 
@@ -164,6 +181,21 @@ fn a_phrase_of_version_2_is_written_with_its_shift_and_its_keys_as_written() {
 }
 
 #[test]
+fn a_phrase_of_version_3_is_written_with_its_rests() {
+    let phrase = with_rests(p(), -3, [5_000, 0]);
+    assert_eq!(write(&phrase, ENOUGH), Ok(P_RESTED.to_vec()));
+    // The rests stand before p; the rest of the file is that of version 2 with another version and count.
+    let mut file = limits_shifted_file(0x18, [12, 95, 12]);
+    (file[0], file[4]) = (3, 0x43);
+    file.splice(21..21, [0x00, 0x01]);
+    file.splice(14..14, [0x12, 0x34]);
+    assert_eq!(file[14..17], [0x12, 0x34, 0xFF]);
+    assert_eq!(file[23..26], [0x00, 0x01, 0x00]);
+    let phrase = with_rests(limits(), 24, [0x1234, 1]);
+    assert_eq!(write(&phrase, ENOUGH), Ok(file));
+}
+
+#[test]
 fn no_notes_and_one_bell_are_a_file() {
     let phrase = phrase(1, &[bell([12, 0, 1, 1, 0])], &[]);
     assert_eq!(write(&phrase, 15), Ok(m8()));
@@ -197,7 +229,7 @@ fn refusals_have_the_places_of_version_2() {
         change(&mut phrase);
         refused(&phrase, ENOUGH)
     };
-    assert_eq!(p_refused(|p| p.version = 3), Some((1, 0)));
+    assert_eq!(p_refused(|p| p.version = 4), Some((1, 0)));
     assert_eq!(p_refused(|p| p.drivers = 0), Some((4, 5)));
     assert_eq!(p_refused(|p| p.version = 1), Some((19, 6)));
     assert_eq!(p_refused(|p| p.shift = 25), Some((19, 6)));
@@ -214,6 +246,72 @@ fn refusals_have_the_places_of_version_2() {
 }
 
 #[test]
+fn refusals_have_the_places_of_version_3() {
+    let p_refused = |change: fn(&mut EditedPhrase)| {
+        let mut phrase = with_rests(p(), -3, [5_000, 0]);
+        change(&mut phrase);
+        refused(&phrase, ENOUGH)
+    };
+    assert_eq!(p_refused(|p| p.version = 4), Some((1, 0)));
+    assert_eq!(p_refused(|p| p.drivers = 0), Some((4, 5)));
+    assert_eq!(p_refused(|p| p.shift = 25), Some((19, 6)));
+    assert_eq!(p_refused(|p| p.bell_count = 0), Some((5, 7)));
+    assert_eq!(p_refused(|p| p.bells[0].written = 11), Some((6, 8)));
+    assert_eq!(p_refused(|p| p.bells[0].rest = 5_001), Some((6, 8)));
+    assert_eq!(p_refused(|p| p.bells[1].rest = 5_001), Some((6, 17)));
+    assert_eq!(p_refused(|p| p.bells[1].transposition = 254), Some((7, 17)));
+    assert_eq!(p_refused(|p| p.note_count = 65), Some((8, 26)));
+    assert_eq!(p_refused(|p| p.notes[0].wait_count = 5), Some((9, 27)));
+    assert_eq!(p_refused(|p| p.notes[1].key = 74), Some((10, 41)));
+    assert_eq!(p_refused(|p| p.notes[0].ra = 6), Some((11, 27)));
+    let waits_for_itself = |p: &mut EditedPhrase| p.notes[1] = note([77, 0, 0, 6], &[1]);
+    assert_eq!(p_refused(waits_for_itself), Some((12, 41)));
+    // Rests in a version without bytes for them: at the bell's first byte, after 19 of a shift without a byte.
+    assert_eq!(p_refused(|p| p.version = 2), Some((6, 8)));
+    assert_eq!(p_refused(|p| p.version = 1), Some((19, 6)));
+    assert_eq!(
+        p_refused(|p| (p.version, p.shift) = (1, 0)),
+        Some((6, 7)),
+        "although no key finds its bell"
+    );
+}
+
+#[test]
+fn a_rest_has_its_limits() {
+    for (version, bell_at) in [(1, [7, 14]), (2, [8, 15]), (3, [8, 17])] {
+        for number in [0, 1] {
+            let with = |rest| {
+                answer(|p| {
+                    p.version = version;
+                    p.bells[number].rest = rest;
+                })
+            };
+            let six = Some((6, bell_at[number]));
+            let longest = if version == 3 { 5_000 } else { 0 };
+            for rest in (0..=6_000).chain(65_500..=70_600) {
+                let expected = if rest <= longest { None } else { six };
+                assert_eq!(with(rest), expected, "version {version}, rest {rest}");
+            }
+            // Too wide, though the two low bytes are right.
+            for rest in [1 << 16, 5_000 + (1 << 16), 1 << 24, 1 << 31, u32::MAX] {
+                assert_eq!(with(rest), six, "version {version}, rest {rest}");
+            }
+        }
+        // Of bell 1 6 comes before 7; but 6 of bell 0 before both.
+        let doubled = |rests: [u32; 2]| {
+            answer(|p| {
+                p.version = version;
+                p.bells[1].written = 12;
+                (p.bells[0].rest, p.bells[1].rest) = (rests[0], rests[1]);
+            })
+        };
+        assert_eq!(doubled([0, 0]), Some((7, bell_at[1])));
+        assert_eq!(doubled([0, 5_001]), Some((6, bell_at[1])));
+        assert_eq!(doubled([5_001, 5_001]), Some((6, bell_at[0])));
+    }
+}
+
+#[test]
 fn the_shift_has_its_limits() {
     let with = |version, shift| {
         answer(|p| {
@@ -227,6 +325,7 @@ fn the_shift_has_its_limits() {
         let in_range = matches!(shift, 0..=24 | 232..=255);
         let expected = if in_range { None } else { nineteen };
         assert_eq!(with(2, shift), expected, "{shift}");
+        assert_eq!(with(3, shift), expected, "{shift} in version 3");
         let expected = if shift == 0 { None } else { nineteen };
         assert_eq!(with(1, shift), expected, "{shift} in version 1");
     }
@@ -243,7 +342,8 @@ fn the_shift_has_its_limits() {
     ] {
         assert_eq!(with(2, shift), nineteen, "{shift}");
         assert_eq!(with(1, shift), nineteen, "{shift} in version 1");
-        assert_eq!(with(3, shift), Some((1, 0)), "{shift} in version 3");
+        assert_eq!(with(3, shift), nineteen, "{shift} in version 3");
+        assert_eq!(with(4, shift), Some((1, 0)), "{shift} in version 4");
     }
 }
 
@@ -283,10 +383,11 @@ fn a_key_and_a_shift_find_the_bell_of_their_sum() {
 
 #[test]
 fn heads_have_their_limits() {
-    for version in [0, 3, 255, 256, 257, 258, 65_537, 65_538, 1 << 24, u32::MAX] {
+    for version in [0, 4, 255, 256, 257, 258, 259, 65_538, 1 << 24, u32::MAX] {
         assert_eq!(answer(|p| p.version = version), Some((1, 0)), "{version}");
     }
     assert_eq!(answer(|p| p.version = 2), None);
+    assert_eq!(answer(|p| p.version = 3), None);
     for drivers in 1..=8 {
         assert_eq!(answer(|p| p.drivers = drivers), None);
     }
@@ -476,6 +577,7 @@ fn an_exact_fit_is_enough_and_one_byte_less_is_16() {
         (p(), &P[..]),
         (limits(), &LIMITS_FILE),
         (shifted(p(), -3), &P_SHIFTED),
+        (with_rests(p(), -3, [5_000, 0]), &P_RESTED),
     ] {
         for room in 0..file.len() {
             assert_eq!(refused(&phrase, room), Some((16, 0)), "{room}");
@@ -547,6 +649,27 @@ fn the_longest_file_of_version_2_has_1823_bytes() {
     assert_eq!(refused(&phrase, ENOUGH), Some((12, 1_823 - 18)));
 }
 
+/// One byte more than in version 1 for the shift, and 192 for the rests of 96 bells.
+#[test]
+fn the_longest_file_of_version_3_has_2015_bytes() {
+    let mut rests = (0..).map(|number| number * 50);
+    let draft = longest(&mut Generator::new(SEED)).shifted(-24).unwrap();
+    let draft = draft.rested(|| rests.next().unwrap());
+    let mut phrase = EditedPhrase::from(&draft);
+    assert_eq!(draft.bytes().len(), 2_015);
+    assert_eq!(write(&phrase, 2_015), Ok(draft.bytes()));
+    assert_eq!(refused(&phrase, 2_014), Some((16, 0)));
+    phrase.notes[63].waits[3] += 256;
+    assert_eq!(refused(&phrase, ENOUGH), Some((12, 2_015 - 18)));
+    // All records at their longest, 2,025 bytes, cannot be right: the first notes have no four strokes before them.
+    for note in &mut phrase.notes[..4] {
+        (note.wait_count, note.waits) = (4, [0, 1, 2, 3]);
+    }
+    phrase.notes[63].waits[3] -= 256;
+    assert_eq!(refused(&phrase, ENOUGH), Some((12, 8 + 96 * 9 + 1)));
+    assert_eq!(Draft::of(&phrase).unwrap().bytes().len(), 2_025);
+}
+
 #[test]
 fn the_wait_that_a_bell_adds_is_not_written() {
     // Both strokes of one bell: the second waits for the first, listed or not.
@@ -582,7 +705,8 @@ fn stored_files_are_written_as_they_were_read() {
 
 /// Which of N, T, the holds and p of the bell at this place are too wide for their bytes.
 fn too_wide(phrase: &EditedPhrase, place: u64) -> [bool; 4] {
-    let bell = phrase.bells[(place as usize - 7) / 7];
+    let layout = Layout::of(phrase.version.into()).expect("a bell was refused");
+    let bell = phrase.bells[(place as usize - layout.bells_at()) / layout.bell_bytes()];
     [
         bell.written > 255,
         bell.transposition > 255,
@@ -705,6 +829,21 @@ fn random_phrases_of_version_2_are_refused_as_their_files_or_read_back() {
     }
     kinds.print();
     // Where the shift is often broken, other fields are less often the first.
+    seen.demand_all(cases / 2, &[19]);
+    kinds.demand_all(cases).unwrap();
+}
+
+#[test]
+fn random_phrases_of_version_3_are_refused_as_their_files_or_read_back() {
+    let cases = CASES / CASES_PER_RESTED;
+    let (mut seen, mut kinds) = (Seen::default(), RestedWriting::new());
+    for number in 0..cases {
+        let case = rested_edited_case(SEED, number);
+        seen.hold_to_the_reader(number, &case, 2_015);
+        kinds.add(&case.phrase);
+    }
+    kinds.print();
+    // Where rests and the shift are often broken, other fields are less often the first.
     seen.demand_all(cases / 2, &[19]);
     kinds.demand_all(cases).unwrap();
 }

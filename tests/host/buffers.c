@@ -1,8 +1,8 @@
 /*
  * Calls the seven calls of host/phrase.h on files good and bad, with tables, texts and files of odd sizes and at odd places, and holds answers, texts and all
- * that has to stay to what document 01 and requests 101, 102 and 104 say. phrase_play gets an empty playing here; playings.c has the others. Every expected
- * value is written here by hand; of a phrase that is accepted, late or too large, and of the same in version 2 with a shift, it is one. areas.h says how memory
- * is lent.
+ * that has to stay to what document 01 and requests 101, 102, 104 and 106 say. phrase_play gets an empty playing here; playings.c has the others. Every
+ * expected value is written here by hand; of a phrase that is accepted, late or too large, and of the same in version 2 with a shift and in version 3 with
+ * rests that do not matter, it is one. areas.h says how memory is lent.
  *
  * Prints one line for each failure (the first twenty) and a count; exit status 0 when nothing failed.
  */
@@ -259,8 +259,8 @@ static const struct {
 
     /* Version 2: the shift at 6, between refusals 4 and 5, and all that follows one byte later. */
     {"version 0", P, 0, 0x00, 1, 0, "refused 1 at 0\n"},
-    {"version 3", P, 0, 0x03, 1, 0, "refused 1 at 0\n"},
-    {"version 3", P_SHIFTED, 0, 0x03, 1, 0, "refused 1 at 0\n"},
+    {"version 4", P, 0, 0x04, 1, 0, "refused 1 at 0\n"},
+    {"version 4", P_SHIFTED, 0, 0x04, 1, 0, "refused 1 at 0\n"},
     {"version 130", P_SHIFTED, 0, 0x82, 1, 0, "refused 1 at 0\n"},
     {"version 2, one byte", "02", UNCHANGED_2, 2, 0, "refused 2 at 0\n"},
     {"version 2, four bytes", "02 000000", UNCHANGED_2, 2, 0, "refused 2 at 0\n"},
@@ -302,6 +302,46 @@ static const struct {
     {"key 0 shifted by -24", ONE_STROKE("E8", "77", "00"), UNCHANGED_2, 10, 16, "refused 10 at 16\n"},
     {"key 250 shifted by 24", ONE_STROKE("18", "12", "FA"), UNCHANGED_2, 10, 16, "refused 10 at 16\n"},
     {"key 255 shifted by -24", ONE_STROKE("E8", "77", "FF"), UNCHANGED_2, 10, 16, "refused 10 at 16\n"},
+
+    /* Version 3: bells of nine bytes, the rest before the rank. */
+    {"P rested as version 4", P_RESTED, 0, 0x04, 1, 0, "refused 1 at 0\n"},
+    {"version 131", P_RESTED, 0, 0x83, 1, 0, "refused 1 at 0\n"},
+    {"version 3, one byte", "03", UNCHANGED_3, 2, 0, "refused 2 at 0\n"},
+    {"P rested, count one more", P_RESTED, 4, 0x33, 2, 0, "refused 2 at 0\n"},
+    {"P as version 3", P, 0, 0x03, 6, 8, "refused 6 at 8\n"}, /* a shift of 2, and 60 bells, the first of key 0 */
+    {"P shifted as version 3", P_SHIFTED, 0, 0x03, 6, 17, "refused 6 at 17\n"}, /* bell 0 rests for 318 and has rank 12; bell 1 has key 0 */
+    {"P rested as version 2", P_RESTED, 0, 0x02, 6, 15, "refused 6 at 15\n"}, /* bell 1 has key 7, the rest of bell 0 */
+    {"P rested as version 1", P_RESTED, 0, 0x01, 5, 6, "refused 5 at 6\n"}, /* 252 bells */
+    {"version 3, no m", "03 00000000", UNCHANGED_3, 3, 5, "refused 3 at 5\n"},
+    {"version 3, row 4, shift 25", "03 00000002 09 19", UNCHANGED_3, 4, 5, "refused 4 at 5\n"},
+    {"version 3, no shift", "03 00000001 01", UNCHANGED_3, 3, 6, "refused 3 at 6\n"},
+    {"version 3, shift 25, no bells", "03 00000003 01 19 00", UNCHANGED_3, 19, 6, "refused 19 at 6\n"},
+    {"P rested, shift -25", P_RESTED, 6, 0xE7, 19, 6, "refused 19 at 6\n"},
+    {"version 3, no bell count", "03 00000002 01 00", UNCHANGED_3, 3, 7, "refused 3 at 7\n"},
+    {"version 3, row 5", "03 00000003 01 18 00", UNCHANGED_3, 5, 7, "refused 5 at 7\n"},
+    {"version 3, 97 bells", "03 00000003 01 E8 61", UNCHANGED_3, 5, 7, "refused 5 at 7\n"},
+    {"version 3, no bell", "03 00000003 01 FC 01", UNCHANGED_3, 3, 8, "refused 3 at 8\n"},
+    {"version 3, cut before the rest", "03 00000009 01 FC 01 3C0000020002", UNCHANGED_3, 3, 8, "refused 3 at 8\n"},
+    {"version 3, cut in the rest", "03 0000000A 01 FC 01 3C0000020002 00", UNCHANGED_3, 3, 8, "refused 3 at 8\n"},
+    {"version 3, cut in a rest too long", "03 0000000A 01 FC 01 3C0000020002 FF", UNCHANGED_3, 3, 8, "refused 3 at 8\n"},
+    {"version 3, cut after the rest", "03 0000000B 01 FC 01 3C0000020002 1389", UNCHANGED_3, 3, 8, "refused 3 at 8\n"},
+    {"version 3, cut after the bell", "03 0000000C 01 FC 01 3C0000020002 1388 01", UNCHANGED_3, 3, 17, "refused 3 at 17\n"},
+    {"version 3, rest 5001, cut after the bell", "03 0000000C 01 FC 01 3C0000020002 1389 01", UNCHANGED_3, 6, 8, "refused 6 at 8\n"},
+    {"version 3, bell 1 cut", "03 00000014 01 FC 02 3C0000020002 0007 01 3E0C00040004 1388", UNCHANGED_3, 3, 17, "refused 3 at 17\n"},
+    {"version 3, row 6", P_RESTED, 8, 0x0B, 6, 8, "refused 6 at 8\n"},
+    {"P rested, rest 5127", P_RESTED, 14, 0x14, 6, 8, "refused 6 at 8\n"},
+    {"P rested, rest 32775", P_RESTED, 14, 0x80, 6, 8, "refused 6 at 8\n"},
+    {"P rested, rest 65287", P_RESTED, 14, 0xFF, 6, 8, "refused 6 at 8\n"},
+    {"P rested, rest 5001", P_RESTED, 24, 0x89, 6, 17, "refused 6 at 17\n"},
+    {"version 3, row 7", P_RESTED, 18, 0xFE, 7, 17, "refused 7 at 17\n"},
+    {"version 3, row 8", P_RESTED, 26, 0x41, 8, 26, "refused 8 at 26\n"},
+    {"version 3, row 9", P_RESTED, 27, 0x0C, 9, 27, "refused 9 at 27\n"},
+    {"P rested, note 1 longer than the file", P_RESTED, 41, 0x0E, 3, 41, "refused 3 at 41\n"},
+    {"P rested, bytes remain", P_RESTED, 26, 0x01, 3, 41, "refused 3 at 41\n"},
+    {"P rested, a note is missing", P_RESTED, 26, 0x03, 3, 55, "refused 3 at 55\n"},
+    {"version 3, row 10", P_RESTED, 42, 0x42, 10, 41, "refused 10 at 41\n"},
+    {"version 3, row 11", P_RESTED, 32, 0x06, 11, 27, "refused 11 at 27\n"},
+    {"version 3, row 12", P_RESTED_WAITING, UNCHANGED_3, 12, 41, "refused 12 at 41\n"},
 };
 
 #define M1_TEXT                                                    \
@@ -389,6 +429,96 @@ static const struct {
     {"key 95 shifted by 24", ONE_STROKE("18", "77", "5F"), {16384, 16380, 0, 0, ONE_TEXT("B8")}},
 };
 
+/* Two strokes of a bell that holds for 2..3 and rests for 5, on one driver; the second is ready at 7..8. W = 8. The rest stands at 14, its due time at 42. */
+#define TWICE "03 00000029 01 00 01 3C00 0002 0003 0005 01 02 0D 3C 00000000 00000000 00000003 0D 3C 00000000 00000000 0000000B"
+#define TWICE_LISTED "03 0000002A 01 00 01 3C00 0002 0003 0005 01 02 0D 3C 00000000 00000000 00000003 0E 3C 00000000 00000000 0000000B 00"
+#define TWICE_TEXT                                              \
+    "stroke 0 key C4 bell 0 ends 2..3 response 2..3 due 3\n"    \
+    "stroke 1 key C4 bell 0 ends 9..11 response 9..11 due 11\n" \
+    "accepted strokes 2 states 3 hold 6\n"
+/* The same without the rest: the second is ready at 2..3. */
+#define RESTLESS_TEXT                                         \
+    "stroke 0 key C4 bell 0 ends 2..3 response 2..3 due 3\n"  \
+    "stroke 1 key C4 bell 0 ends 4..6 response 4..6 due 11\n" \
+    "accepted strokes 2 states 3 hold 6\n"
+
+/* Two strokes of bell 0, called at 0, beside another note, on one driver. W = 10. Rests stand at 14 and 23, due times at 37, 51 and 65. */
+#define BESIDE(bell_0, bell_1, due_0, due_1, note_2) \
+    "01 00 02" bell_0 bell_1 "03 0D 3C 00000000 00000000" due_0 "0D 3C 00000000 00000000" due_1 note_2
+/*
+ * Two strokes of a bell of rank 1 that holds for 2 and rests for 5, and a lesser stroke that holds for 3..9. It starts at 2, when the first has ended, and ends
+ * at 5..11; the second, ready at 7, starts at 7..11. Where it lists the first, both wait for that, but the rest of 5 is for the second alone, so that this wait
+ * of the second is not left out.
+ */
+#define LESSER "03 00000040" BESIDE("3C00 0002 0002 0005 01", "3E00 0003 0009 0000 02", "00000002", "0000000D", "0D 3E 00000000 00000000 0000000B")
+#define LESSER_LISTING \
+    "03 00000041" BESIDE("3C00 0002 0002 0005 01", "3E00 0003 0009 0000 02", "00000002", "0000000D", "0E 3E 00000000 00000000 0000000B 00")
+#define LESSER_TEXT                                             \
+    "stroke 0 key C4 bell 0 ends 2..2 response 2..2 due 2\n"    \
+    "stroke 1 key C4 bell 0 ends 9..13 response 9..13 due 13\n" \
+    "stroke 2 key D4 bell 1 ends 5..11 response 5..11 due 11\n" \
+    "accepted strokes 3 states 4 hold 13\n"
+/*
+ * The lesser stroke holds for 3 and is called at 0..20. Level 2 has two states: the second stroke started, at 7, or the lesser one, at 2..6. Then the lesser
+ * one starts at 9..20, or the second at 7..9; the drivers are free at 12..23, or at 9..11, so the states are not joined.
+ */
+#define EITHER "03 00000040" BESIDE("3C00 0002 0002 0005 01", "3E00 0003 0003 0000 02", "00000002", "0000000B", "0D 3E 00000000 00000014 00000017")
+#define EITHER_LISTING \
+    "03 00000041" BESIDE("3C00 0002 0002 0005 01", "3E00 0003 0003 0000 02", "00000002", "0000000B", "0E 3E 00000000 00000014 00000017 00")
+#define EITHER_TEXT                                             \
+    "stroke 0 key C4 bell 0 ends 2..2 response 2..2 due 2\n"    \
+    "stroke 1 key C4 bell 0 ends 9..11 response 9..11 due 11\n" \
+    "stroke 2 key D4 bell 1 ends 5..23 response 5..23 due 23\n" \
+    "accepted strokes 3 states 6 hold 7\n"
+/*
+ * The other stroke has rank 1 and lists the first, which holds for 2..4; the second has rank 2, and its bell rests for 1. Both wait for the first, the other
+ * one without a rest, so that this wait of it is left out: called at 0, it always goes before the second, at 2..4.
+ */
+#define GREATER "03 00000041" BESIDE("3C00 0002 0004 0001 02", "3E00 0003 0003 0000 01", "00000004", "0000000B", "0E 3E 00000000 00000000 00000007 00")
+#define GREATER_TEXT                                            \
+    "stroke 0 key C4 bell 0 ends 2..4 response 2..4 due 4\n"    \
+    "stroke 1 key C4 bell 0 ends 7..11 response 7..11 due 11\n" \
+    "stroke 2 key D4 bell 1 ends 5..7 response 5..7 due 7\n"    \
+    "accepted strokes 3 states 4 hold 11\n"
+
+/* Files of version 3 that are read. In all but P rests matter. */
+static const struct {
+    const char *name, *hex;
+    size_t at;
+    uint8_t byte;
+    struct outcome outcome;
+} rests[] = {
+    {"P rested", P_RESTED, UNCHANGED_3, {15, 0, 13, 0, FULL_AT("0")}},
+    {"P rested", P_RESTED, UNCHANGED_3, {31, 16, 13, 1, FULL_AT("1")}},
+    {"P rested", P_RESTED, UNCHANGED_3, {33, 32, 0, 0, P_TEXT}},
+    {"P rested", P_RESTED, UNCHANGED_3, {16384, 16384, 0, 0, P_TEXT}},
+    {"P rested, stroke 0 due 6", P_RESTED, 40, 0x06, {16384, 16384, 14, 0, "refused 14 stroke 0 ends 6..7\n"}},
+    {"a bell twice", TWICE, UNCHANGED_3, {15, 0, 13, 0, FULL_AT("0")}},
+    {"a bell twice", TWICE, UNCHANGED_3, {16, 16, 0, 0, TWICE_TEXT}},
+    {"a bell twice", TWICE, UNCHANGED_3, {16384, 16384, 0, 0, TWICE_TEXT}},
+    {"a bell twice, listed", TWICE_LISTED, UNCHANGED_3, {16384, 16384, 0, 0, TWICE_TEXT}},
+    {"a bell twice, rest 0", TWICE, 15, 0x00, {16384, 16384, 0, 0, RESTLESS_TEXT}},
+    {"a bell twice, rest 6", TWICE, 15, 0x06, {16384, 16384, 14, 1, "refused 14 stroke 1 ends 10..12\n"}},
+    {"a bell twice, rest 4869", TWICE, 14, 0x13, {16384, 16384, 14, 1, "refused 14 stroke 1 ends 4873..4875\n"}},
+    {"a bell twice, listed, rest 6", TWICE_LISTED, 15, 0x06, {16384, 16384, 14, 1, "refused 14 stroke 1 ends 10..12\n"}},
+    {"a bell twice, stroke 1 due 10", TWICE, 45, 0x0A, {16, 16, 14, 1, "refused 14 stroke 1 ends 9..11\n"}},
+    {"a bell twice, on two drivers", TWICE, 5, 0x02, {16384, 16380, 0, 0, TWICE_TEXT}},
+    {"a lesser stroke between", LESSER, UNCHANGED_3, {19, 0, 13, 0, FULL_AT("0")}},
+    {"a lesser stroke between", LESSER, UNCHANGED_3, {20, 20, 0, 0, LESSER_TEXT}},
+    {"a lesser stroke between", LESSER, UNCHANGED_3, {16384, 16380, 0, 0, LESSER_TEXT}},
+    {"a lesser stroke between, its bell rests", LESSER, 24, 0xFF, {16384, 16380, 0, 0, LESSER_TEXT}},
+    {"a lesser stroke between, stroke 1 due 12", LESSER, 54, 0x0C, {16384, 16380, 14, 1, "refused 14 stroke 1 ends 9..13\n"}},
+    {"a lesser stroke between, stroke 2 due 10", LESSER, 68, 0x0A, {16384, 16380, 14, 2, "refused 14 stroke 2 ends 5..11\n"}},
+    {"a lesser stroke that lists stroke 0", LESSER_LISTING, UNCHANGED_3, {16384, 16380, 0, 0, LESSER_TEXT}},
+    {"either order", EITHER, UNCHANGED_3, {39, 20, 13, 2, FULL_AT("2")}},
+    {"either order", EITHER, UNCHANGED_3, {40, 40, 0, 0, EITHER_TEXT}},
+    {"either order", EITHER, UNCHANGED_3, {16384, 16380, 0, 0, EITHER_TEXT}},
+    {"either order, listing stroke 0", EITHER_LISTING, UNCHANGED_3, {16384, 16380, 0, 0, EITHER_TEXT}},
+    {"a greater stroke that lists stroke 0", GREATER, UNCHANGED_3, {20, 20, 0, 0, GREATER_TEXT}},
+    {"a greater stroke that lists stroke 0", GREATER, UNCHANGED_3, {16384, 16380, 0, 0, GREATER_TEXT}},
+    {"a greater stroke that lists stroke 0, rest 9", GREATER, 15, 0x09, {16384, 16380, 14, 1, "refused 14 stroke 1 ends 13..17\n"}},
+};
+
 static void try_refusals(void)
 {
     static const size_t tables[] = {0, 1, 31, 32, 33, 16384};
@@ -412,16 +542,18 @@ static void try_refusals(void)
     }
 }
 
-/* In version 1, and in version 2 with a shift, mostly another each time. */
+/* In version 1, in version 2 with a shift, mostly another each time, and so in version 3, with rests of bells that have but one stroke. */
 static void try_walks(void)
 {
     size_t i;
     for (i = 0; i < sizeof walks / sizeof *walks; i++) {
-        struct file file = from_hex(walks[i].name, walks[i].hex), moved;
+        struct file file = from_hex(walks[i].name, walks[i].hex), moved, resting;
         file.bytes[walks[i].at] = walks[i].byte;
         moved = shifted(&file, 24 - (int)i * 5 % 49);
+        resting = rested_alike(&moved, 5000 - (uint32_t)i * 137);
         try_outcome(&file, &walks[i].outcome);
         try_outcome(&moved, &walks[i].outcome);
+        try_outcome(&resting, &walks[i].outcome);
     }
 }
 
@@ -431,6 +563,16 @@ static void try_shifts(void)
     for (i = 0; i < sizeof shifts / sizeof *shifts; i++) {
         struct file file = from_hex(shifts[i].name, shifts[i].hex);
         try_outcome(&file, &shifts[i].outcome);
+    }
+}
+
+static void try_rests(void)
+{
+    size_t i;
+    for (i = 0; i < sizeof rests / sizeof *rests; i++) {
+        struct file file = from_hex(rests[i].name, rests[i].hex);
+        file.bytes[rests[i].at] = rests[i].byte;
+        try_outcome(&file, &rests[i].outcome);
     }
 }
 
@@ -451,15 +593,30 @@ static void try_level_full(unsigned strokes, struct outcome outcome)
 }
 
 /*
- * 64 strokes of one bell, one after the other on 8 drivers: nearly the longest text that there is, 5,533 bytes. W = 146.
- * Stroke 0 is called at 1000000..3000000, the others at 0, and each holds its driver for 5000.
+ * The text of 64 strokes of one bell, one after the other on 8 drivers: nearly the longest that there is, 5,533 bytes.
+ * Stroke 0 is called at 1000000..3000000, the others at 0; each holds its driver for 5000, and then the bell rests.
  */
+static void write_longest_text(char *text, unsigned rest)
+{
+    size_t length = (size_t)sprintf(text, "stroke 0 key A#4 bell 10 ends 1005000..3005000 response 5000..2005000 due 3600000\n");
+    unsigned i;
+    for (i = 1; i < 64; i++) {
+        unsigned earliest = 1005000 + (5000 + rest) * i, latest = 3005000 + (5000 + rest) * i;
+        length += (size_t)sprintf(text + length, "stroke %u key A#4 bell 10 ends %u..%u response %u..%u due 3600000\n", i, earliest, latest,
+                                  earliest, latest);
+    }
+    length += (size_t)sprintf(text + length, "accepted strokes 64 states 65 hold 320000\n");
+    snprintf(trial, sizeof trial, "the longest text as this test writes it");
+    expect_number(length, 5533, "its length");
+}
+
+/* W = 146. A rest of 4444 is the longest after which the last stroke, which ends at 3005000 + 63 * 9444 at the latest, is in time. */
 static void try_longest_text(void)
 {
     static char text[MOST_TEXT];
-    struct file file = begin("64 strokes of one bell", 8, 11);
+    struct file file = begin("64 strokes of one bell", 8, 11), late;
     struct outcome full = {291, 0, 13, 0, FULL_AT("0")}, exact = {292, 292, 0, 0, text}, own = {16384, 16352, 0, 0, text};
-    size_t length = 0;
+    struct outcome last = {16384, 16352, 14, 63, "refused 14 stroke 63 ends 1600035..3600035\n"};
     unsigned i;
 
     for (i = 0; i < 11; i++)
@@ -469,21 +626,43 @@ static void try_longest_text(void)
         add_note(&file, 70, i == 0 ? 1000000 : 0, i == 0 ? 3000000 : 0, 3600000);
     finish(&file);
 
-    length += (size_t)sprintf(text, "stroke 0 key A#4 bell 10 ends 1005000..3005000 response 5000..2005000 due 3600000\n");
-    for (i = 1; i < 64; i++) {
-        unsigned earliest = 1005000 + 5000 * i, latest = 3005000 + 5000 * i;
-        length += (size_t)sprintf(text + length, "stroke %u key A#4 bell 10 ends %u..%u response %u..%u due 3600000\n", i, earliest, latest,
-                                  earliest, latest);
-    }
-    length += (size_t)sprintf(text + length, "accepted strokes 64 states 65 hold 320000\n");
-
-    snprintf(trial, sizeof trial, "the longest text as this test writes it");
-    expect_number(length, 5533, "its length");
+    write_longest_text(text, 0);
     try_outcome(&file, &full);
     try_outcome(&file, &exact);
     try_outcome(&file, &own);
     file = shifted(&file, -3);
     try_outcome(&file, &exact);
+    try_outcome(&file, &own);
+    late = rested_alike(&file, 4445);
+    try_outcome(&late, &last);
+    file = rested_alike(&file, 4444);
+    write_longest_text(text, 4444);
+    try_outcome(&file, &full);
+    try_outcome(&file, &exact);
+    try_outcome(&file, &own);
+}
+
+/*
+ * The longest file in each version: stroke i waits for the one before it, of another bell, and holds for 1..5000, so it ends at i + 1..5000 (i + 1). No bell is
+ * struck twice, so no rest matters. W = 146.
+ */
+static void try_longest_file(void)
+{
+    static const char *const names[] = {"C", "C#", "D", "D#", "E", "F", "F#", "G", "G#", "A", "A#", "B"};
+    static char text[MOST_TEXT];
+    struct file file = longest();
+    struct outcome full = {291, 0, 13, 0, FULL_AT("0")}, own = {16384, 16352, 0, 0, text};
+    size_t length = 0;
+    unsigned i;
+    for (i = 0; i < 64; i++)
+        length += (size_t)sprintf(text + length, "stroke %u key %s%u bell %u ends %u..%u response %u..%u due 3600000\n", i, names[(107 - i) % 12],
+                                  (107 - i) / 12 - 1, 95 - i, i + 1, 5000 * (i + 1), i + 1, 5000 * (i + 1));
+    sprintf(text + length, "accepted strokes 64 states 65 hold 320000\n");
+    try_outcome(&file, &own);
+    file = shifted(&file, -24);
+    try_outcome(&file, &own);
+    file = rested_alike(&file, 5000);
+    try_outcome(&file, &full);
     try_outcome(&file, &own);
 }
 
@@ -497,6 +676,7 @@ static void try_larger_files(void)
     try_level_full(63, of_63);
     try_level_full(63, of_63_tight);
     try_longest_text();
+    try_longest_file();
 }
 
 int main(void)
@@ -513,6 +693,7 @@ int main(void)
     try_refusals();
     try_walks();
     try_shifts();
+    try_rests();
     try_larger_files();
     return end_test();
 }

@@ -74,6 +74,25 @@ static const struct phrase phrase_down = {
 };
 #define DOWN "02 0000002E 01 E8 02 0C00 0001 0001 00 7700 0001 0001 00 02 0D 8F 00000000 00000000 00000000 0D 24 00000000 00000000 00000000"
 
+/*
+ * Version 3: rests of 0, 1 and 5000, and shifted up by three semitones. Bells at 8, 17 and 26, their end at 35, notes at 36, 50, 64, 79 and 95. Note 3 lists
+ * the stroke of its bell before it, which its bell adds anyway.
+ */
+static const struct phrase phrase_s = {
+    3, 5, 3, 5, 3,
+    {{60, 0, 2, 3, 7, 0, 60}, {64, 4, 4, 5, 8, 1, 68}, {90, 4, 6, 7, 9, 5000, 94}},
+    {{57, 0, 1, 20, 0, {0, 0, 0, 0}, 0},
+     {65, 2, 3, 30, 0, {0, 0, 0, 0}, 1},
+     {91, 4, 5, 40, 1, {1, 0, 0, 0}, 2},
+     {65, 6, 7, 50, 2, {1, 2, 0, 0}, 1},
+     {91, 8, 9, 60, 4, {0, 1, 2, 3}, 2}},
+};
+#define S                                                                                                                           \
+    "03 0000006C 05 03 03 3C00 0002 0003 0000 07 4004 0004 0005 0001 08 5A04 0006 0007 1388 09 05 0D 39 00000000 00000001 00000014" \
+    "0D 41 00000002 00000003 0000001E 0E 5B 00000004 00000005 00000028 01 0F 41 00000006 00000007 00000032 01 02"                   \
+    "11 5B 00000008 00000009 0000003C 00 01 02 03"
+enum { S_SIZE = 113 };
+
 /* The least and the largest values: keys 12 and 119, written and sounding, transpositions -24 and 24, no notes. */
 static const struct phrase phrase_bounds = {
     1, 8, 4, 0, 0,
@@ -81,6 +100,14 @@ static const struct phrase phrase_bounds = {
     {{0, 0, 0, 0, 0, {0, 0, 0, 0}, 0}},
 };
 #define BOUNDS "01 0000001F 08 04 0C18 0001 0001 00 77E8 1388 1388 FF 24E8 0001 1388 7F 5F18 1387 1388 80 00"
+
+/* The same in version 3, with the least and the largest rests, and the least shift. */
+static const struct phrase phrase_rests = {
+    3, 8, 4, 0, 232,
+    {{12, 24, 1, 1, 0, 0, 36}, {119, 232, 5000, 5000, 255, 5000, 95}, {36, 232, 1, 5000, 127, 1, 12}, {95, 24, 4999, 5000, 128, 4999, 119}},
+    {{0, 0, 0, 0, 0, {0, 0, 0, 0}, 0}},
+};
+#define RESTS "03 00000028 08 E8 04 0C18 0001 0001 0000 00 77E8 1388 1388 1388 FF 24E8 0001 1388 0001 7F 5F18 1387 1388 1387 80 00"
 
 /* The phrase of longest(). */
 static struct phrase longest_phrase(void)
@@ -111,7 +138,7 @@ static struct file encoded(const struct phrase *phrase)
     struct file file = begin("an encoded phrase", phrase->drivers, phrase->bell_count);
     uint32_t i, wait;
     file.bytes[0] = (uint8_t)phrase->version;
-    if (phrase->version == 2) {
+    if (phrase->version == 2 || phrase->version == 3) {
         file.bytes[6] = (uint8_t)phrase->shift;
         add_byte(&file, phrase->bell_count);
     }
@@ -119,6 +146,8 @@ static struct file encoded(const struct phrase *phrase)
         const struct phrase_bell *bell = &phrase->bells[i];
         add_bell(&file, bell->key, bell->least_hold, bell->most_hold, bell->rank);
         file.bytes[file.size - 6] = (uint8_t)bell->transposition;
+        if (phrase->version == 3)
+            add_rest(&file, bell->rest);
     }
     add_byte(&file, phrase->note_count);
     for (i = 0; i < phrase->note_count && i < PHRASE_MOST_NOTES; i++) {
@@ -146,7 +175,7 @@ static uint32_t bell_of(const struct phrase *phrase, uint32_t key)
     return bell;
 }
 
-/* A phrase that keeps the rules, as it is read once it is written: what is derived is right, and all that does not count is 0. */
+/* A phrase that keeps the rules, as it is read once it is written: what is derived is right, and all that does not count is 0. Only version 3 has rests. */
 static struct phrase as_read(const struct phrase *phrase)
 {
     struct phrase read;
@@ -159,7 +188,7 @@ static struct phrase as_read(const struct phrase *phrase)
     read.shift = phrase->shift;
     for (i = 0; i < phrase->bell_count; i++) {
         read.bells[i] = phrase->bells[i];
-        read.bells[i].spare = 0;
+        read.bells[i].rest = phrase->version == 3 ? phrase->bells[i].rest : 0;
         read.bells[i].sounding = (uint32_t)((int)phrase->bells[i].key + signed_byte(phrase->bells[i].transposition));
     }
     for (i = 0; i < phrase->note_count; i++) {
@@ -296,39 +325,126 @@ static void try_shifted_phrases(void)
     expect_number(most.size, 1823, "its length");
 }
 
-/* Each shift that there is, and the next ones: P's bells are struck by keys that are as much lower. */
-static void try_all_shifts(void)
+/* A phrase of version 1 or 2, and its file, in version 3, without a rest. */
+static void try_as_version_3(const char *name, const struct file *file, const struct phrase *phrase)
 {
-    struct file p = from_hex("P", P);
-    int semitones;
-    for (semitones = -25; semitones <= 25; semitones++) {
-        struct file file = shifted(&p, semitones);
-        struct phrase phrase = phrase_p;
-        struct result due = {0, file.size, &file}, wrong = {19, 6, NULL};
-        phrase.version = 2;
-        phrase.shift = phrase_transposition(semitones);
-        phrase.notes[0].key = (uint32_t)(60 - semitones);
-        phrase.notes[1].key = (uint32_t)(74 - semitones);
-        if (semitones < -24 || semitones > 24) {
+    struct file longer = phrase->version == 1 ? shifted(file, 0) : *file;
+    struct phrase version_3 = *phrase;
+    longer = rested_alike(&longer, 0);
+    longer.name = name;
+    version_3.version = 3;
+    try_both(&longer, &version_3);
+}
+
+/* The longest file, with a shift and, in all of its bells, a rest: 60, 112 and so on up to 5000. It has 8 + 96 * 9 + 1 + 64 * 14 + 246 = 2015 bytes. */
+static void try_longest_rested(void)
+{
+    struct file most = longest();
+    struct phrase phrase = longest_phrase();
+    uint32_t rests[PHRASE_MOST_BELLS], i;
+    phrase.version = 3;
+    phrase.shift = 232;
+    for (i = 0; i < 64; i++)
+        phrase.notes[i].key += 24;
+    for (i = 0; i < 96; i++)
+        phrase.bells[i].rest = rests[i] = 60 + 52 * i;
+    most = shifted(&most, -24);
+    most = rested(&most, rests);
+    most.name = "a longest file of version 3";
+    try_both(&most, &phrase);
+    snprintf(trial, sizeof trial, "the longest file of version 3");
+    expect_number(most.size, 2015, "its length");
+    expect_number(rests[95], 5000, "its last rest");
+}
+
+/* P, Q and R in version 3 without rests, those above, and the longest file. */
+static void try_rested_phrases(void)
+{
+    struct file p = from_hex("P", P), q = from_hex("Q", Q), r = from_hex("R", R), s = from_hex("S", S), rests = from_hex("rests", RESTS);
+    try_as_version_3("P, version 3", &p, &phrase_p);
+    try_as_version_3("Q, version 3", &q, &phrase_q);
+    try_as_version_3("R, version 3", &r, &phrase_r);
+    try_both(&s, &phrase_s);
+    try_both(&rests, &phrase_rests);
+    try_longest_rested();
+}
+
+/* P shifted by so many semitones, or too far: its bells are struck by keys that are as much lower. */
+static void try_shift(const struct file *p, int semitones)
+{
+    struct file file = shifted(p, semitones), longer = rested_alike(&file, 0);
+    struct phrase phrase = phrase_p;
+    struct result due = {0, file.size, &file}, due_longer = {0, longer.size, &longer}, wrong = {19, 6, NULL};
+    phrase.shift = phrase_transposition(semitones);
+    phrase.notes[0].key = (uint32_t)(60 - semitones);
+    phrase.notes[1].key = (uint32_t)(74 - semitones);
+    if (semitones < -24 || semitones > 24) {
+        for (phrase.version = 2; phrase.version <= 3; phrase.version++)
             try_write("P shifted too far", &phrase, setting_number(0), 1, MOST_ROOM, wrong);
-            continue;
-        }
+        return;
+    }
+    phrase.version = 2;
+    try_read(&file, setting_number(0), 1, &phrase);
+    try_write("P shifted", &phrase, setting_number(1), 1, file.size, due);
+    phrase.version = 3;
+    try_read(&longer, setting_number(0), 1, &phrase);
+    try_write("P shifted, as version 3", &phrase, setting_number(1), 1, longer.size, due_longer);
+    phrase.version = 1;
+    if (semitones != 0)
+        try_write("P shifted, as version 1", &phrase, setting_number(1), 1, MOST_ROOM, wrong);
+}
+
+/* P in version 3 with one rest: bells at 8 and 17, 55 bytes. Above 5000 its file is not read and it is not written; nor in another version, unless 0. */
+static void try_rest(const struct file *p, uint32_t bell, uint32_t rest)
+{
+    uint32_t given[2] = {0, 0};
+    struct file file;
+    struct phrase phrase = phrase_p, read;
+    struct result due = {0, 55, &file}, wrong = {6, 8 + 9 * bell, NULL}, wrong_1 = {6, 7 + 7 * bell, NULL}, wrong_2 = {6, 8 + 7 * bell, NULL};
+    given[bell] = rest;
+    file = rested(p, given);
+    file.name = "P with a rest";
+    phrase.version = 3;
+    phrase.bells[bell].rest = rest;
+    if (rest <= 5000) {
         try_read(&file, setting_number(0), 1, &phrase);
-        try_write("P shifted", &phrase, setting_number(1), 1, file.size, due);
-        phrase.version = 1;
-        if (semitones != 0)
-            try_write("P shifted, as version 1", &phrase, setting_number(1), 1, MOST_ROOM, wrong);
+        try_write("P with a rest", &phrase, setting_number(1), 1, file.size, due);
+    } else {
+        try_write("P with a rest too long", &phrase, setting_number(1), 1, MOST_ROOM, wrong);
+        snprintf(trial, sizeof trial, "phrase_read, P with a rest of %u", (unsigned)rest);
+        expect_answer(phrase_read(file.bytes, file.size, &read), wrong.number, wrong.place);
+    }
+    phrase.version = 1;
+    if (rest != 0)
+        try_write("P with a rest, as version 1", &phrase, setting_number(1), 1, MOST_ROOM, wrong_1);
+    phrase.version = 2;
+    if (rest != 0)
+        try_write("P with a rest, as version 2", &phrase, setting_number(1), 1, MOST_ROOM, wrong_2);
+}
+
+static void try_shifts_and_rests(void)
+{
+    static const uint32_t rests[] = {0,    1,    127,  128,  255,  256,  257,  511,  512,   4095,  4096,  4863,
+                                     4864, 4999, 5000, 5001, 5119, 5120, 5256, 8192, 32767, 32768, 65280, 65535};
+    struct file p = from_hex("P", P), unshifted = shifted(&p, 0);
+    size_t i;
+    int semitones;
+    for (semitones = -25; semitones <= 25; semitones++)
+        try_shift(&p, semitones);
+    for (i = 0; i < sizeof rests / sizeof *rests; i++) {
+        try_rest(&unshifted, 0, rests[i]);
+        try_rest(&unshifted, 1, rests[i]);
     }
 }
 
-/* ---- Fields changed in Q, and in R ---- */
+/* ---- Fields changed in Q, in R and in S ---- */
 
 struct word {
     const char *name;
     size_t at;
     uint32_t value;
 };
-enum { MOST_CHANGED = 3 };
+enum { MOST_CHANGED = 4 };
 #define TO(field, value) {#field " = " #value, offsetof(struct phrase, field), value}
 #define HIGH 0x80000000u
 #define ALL 0xFFFFFFFFu
@@ -340,7 +456,8 @@ static const struct change {
 } changes[] = {
     {{TO(version, 0)}, 1, 0},
     {{TO(version, 2)}, 0, Q_SIZE + 1},
-    {{TO(version, 3)}, 1, 0},
+    {{TO(version, 3)}, 0, Q_SIZE + 1 + 6},
+    {{TO(version, 4)}, 1, 0},
     {{TO(version, 257)}, 1, 0},
     {{TO(version, HIGH + 1)}, 1, 0},
     {{TO(drivers, 0)}, 4, 5},
@@ -398,6 +515,22 @@ static const struct change {
     {{TO(bells[1].rank, 256 + 1)}, 6, 14},
     {{TO(bells[2].rank, ALL)}, 6, 21},
     {{TO(bells[2].rank, 0)}, 0, Q_SIZE},
+    {{TO(bells[0].rest, 1)}, 6, 7}, /* version 1 has none */
+    {{TO(bells[1].rest, 1)}, 6, 14},
+    {{TO(bells[2].rest, 1)}, 6, 21},
+    {{TO(bells[0].rest, 5000)}, 6, 7},
+    {{TO(bells[1].rest, 5001)}, 6, 14},
+    {{TO(bells[2].rest, 256)}, 6, 21},
+    {{TO(bells[0].rest, 65536)}, 6, 7},
+    {{TO(bells[1].rest, HIGH)}, 6, 14},
+    {{TO(bells[2].rest, ALL)}, 6, 21},
+    {{TO(bells[3].rest, 1)}, 0, Q_SIZE}, /* there is no fourth */
+    {{TO(bell_count, 2), TO(note_count, 2), TO(bells[2].rest, 1)}, 0, 7 + 14 + 1 + 14 + 15},
+    {{TO(version, 2), TO(bells[0].rest, 1)}, 6, 8},
+    {{TO(version, 2), TO(bells[2].rest, 5000)}, 6, 22},
+    {{TO(version, 3), TO(bells[0].rest, 1)}, 0, Q_SIZE + 1 + 6},
+    {{TO(version, 3), TO(bells[1].rest, 1), TO(bells[2].rest, 5000)}, 0, Q_SIZE + 1 + 6},
+    {{TO(version, 3), TO(bells[2].rest, 5001)}, 6, 26},
     {{TO(bells[1].transposition, 254)}, 7, 14}, /* -2: sounds for 60 */
     {{TO(bells[2].key, 63)}, 7, 21},            /* sounds for 60 */
     {{TO(bells[2].key, 77)}, 7, 21},            /* sounds for 74 */
@@ -456,14 +589,32 @@ static const struct change {
     {{TO(notes[5].waits[1], 3)}, 0, Q_SIZE},
 
     /* Two that are wrong: the file's order, and within a record 6, 7, and 9, 11, 10, 12. */
-    {{TO(version, 3), TO(drivers, 9), TO(bell_count, 0)}, 1, 0},
-    {{TO(version, 3), TO(shift, 1)}, 1, 0},
+    {{TO(version, 4), TO(drivers, 9), TO(bell_count, 0)}, 1, 0},
+    {{TO(version, 4), TO(shift, 1)}, 1, 0},
+    {{TO(version, 4), TO(bells[0].rest, 1)}, 1, 0},
+    {{TO(version, 3), TO(drivers, 9)}, 4, 5},
+    {{TO(version, 3), TO(shift, 1)}, 10, 36}, /* 61: bells at 8, 17 and 26 */
     {{TO(drivers, 9), TO(bell_count, 0)}, 4, 5},
     {{TO(drivers, 9), TO(shift, 1)}, 4, 5},
     {{TO(shift, 1), TO(bell_count, 0)}, 19, 6},
     {{TO(shift, ALL), TO(bell_count, ALL)}, 19, 6},
     {{TO(shift, 1), TO(notes[0].key, 0)}, 19, 6},
     {{TO(bell_count, 97), TO(bells[0].key, 0)}, 5, 6},
+    {{TO(drivers, 9), TO(bells[0].rest, 1)}, 4, 5},
+    {{TO(shift, 1), TO(bells[0].rest, 1)}, 19, 6},
+    {{TO(bell_count, 0), TO(bells[0].rest, 1)}, 5, 6},
+    {{TO(bell_count, 97), TO(bells[0].rest, 1)}, 5, 6},
+    {{TO(bell_count, 4), TO(bells[3].rest, 1)}, 6, 28},
+    {{TO(bells[0].rest, 1), TO(bells[1].key, 0)}, 6, 7},
+    {{TO(bells[0].key, 0), TO(bells[1].rest, 1)}, 6, 7},
+    {{TO(bells[1].transposition, 254), TO(bells[1].rest, 1)}, 6, 14}, /* a doubled key comes after it */
+    {{TO(bells[1].transposition, 254), TO(bells[2].rest, 1)}, 7, 14},
+    {{TO(bells[2].key, 63), TO(bells[2].rest, ALL)}, 6, 21},
+    {{TO(bells[2].key, 63), TO(bells[1].rest, 1)}, 6, 14},
+    {{TO(bells[1].rest, 1), TO(bells[2].rest, 1)}, 6, 14},
+    {{TO(bells[2].rest, 1), TO(note_count, 65)}, 6, 21},
+    {{TO(bells[2].rest, 1), TO(notes[0].wait_count, 5)}, 6, 21},
+    {{TO(bells[2].rest, 1), TO(notes[0].key, 61)}, 6, 21},
     {{TO(bells[0].rank, 256), TO(bells[1].key, 0)}, 6, 7},
     {{TO(bells[1].transposition, 254), TO(bells[2].key, 0)}, 7, 14},
     {{TO(bells[1].transposition, 254), TO(bells[1].rank, 256)}, 6, 14},
@@ -506,7 +657,8 @@ static const struct change {
 static const struct change changes_of_r[] = {
     {{TO(version, 0)}, 1, 0},
     {{TO(version, 1)}, 19, 6},
-    {{TO(version, 3)}, 1, 0},
+    {{TO(version, 3)}, 0, R_SIZE + 6},
+    {{TO(version, 4)}, 1, 0},
     {{TO(version, 256 + 2)}, 1, 0},
     {{TO(version, HIGH + 2)}, 1, 0},
     {{TO(version, 1), TO(shift, 0)}, 10, 29}, /* no bell sounds for 68 */
@@ -535,6 +687,19 @@ static const struct change changes_of_r[] = {
     {{TO(bells[0].key, 11)}, 6, 8},
     {{TO(bells[1].rank, 256)}, 6, 15},
     {{TO(bells[2].transposition, 1)}, 6, 22},
+    {{TO(bells[0].rest, 1)}, 6, 8}, /* version 2 has none */
+    {{TO(bells[1].rest, 1)}, 6, 15},
+    {{TO(bells[2].rest, 1)}, 6, 22},
+    {{TO(bells[0].rest, 5000)}, 6, 8},
+    {{TO(bells[1].rest, 5001)}, 6, 15},
+    {{TO(bells[2].rest, 256)}, 6, 22},
+    {{TO(bells[0].rest, 65536)}, 6, 8},
+    {{TO(bells[1].rest, HIGH)}, 6, 15},
+    {{TO(bells[2].rest, ALL)}, 6, 22},
+    {{TO(bells[3].rest, 1)}, 0, R_SIZE},
+    {{TO(version, 3), TO(bells[1].rest, 5000)}, 0, R_SIZE + 6},
+    {{TO(version, 3), TO(bells[1].rest, 5001)}, 6, 17},
+    {{TO(version, 1), TO(shift, 0), TO(bells[1].rest, 1)}, 6, 14},
     {{TO(bells[1].transposition, 252)}, 7, 15}, /* sounds for 64 */
     {{TO(bells[2].key, 70)}, 7, 22},
     {{TO(note_count, 65)}, 8, 29},
@@ -568,7 +733,20 @@ static const struct change changes_of_r[] = {
     {{TO(shift, 255), TO(notes[0].key, 0), TO(bells[0].key, 12)}, 10, 30},
 
     /* Two that are wrong. */
-    {{TO(version, 3), TO(shift, 25)}, 1, 0},
+    {{TO(version, 4), TO(shift, 25)}, 1, 0},
+    {{TO(version, 3), TO(shift, 25)}, 19, 6},
+    {{TO(version, 4), TO(bells[0].rest, 1)}, 1, 0},
+    {{TO(version, 1), TO(bells[0].rest, 1)}, 19, 6},
+    {{TO(drivers, 9), TO(bells[0].rest, 1)}, 4, 5},
+    {{TO(shift, 25), TO(bells[0].rest, 1)}, 19, 6},
+    {{TO(bell_count, 0), TO(bells[0].rest, 1)}, 5, 7},
+    {{TO(bell_count, 97), TO(bells[0].rest, 1)}, 5, 7},
+    {{TO(bells[0].rest, 1), TO(bells[1].key, 0)}, 6, 8},
+    {{TO(bells[1].transposition, 252), TO(bells[1].rest, 1)}, 6, 15}, /* a doubled key comes after it */
+    {{TO(bells[1].transposition, 252), TO(bells[2].rest, 1)}, 7, 15},
+    {{TO(bells[2].key, 70), TO(bells[2].rest, 1)}, 6, 22},
+    {{TO(bells[2].rest, 1), TO(note_count, 65)}, 6, 22},
+    {{TO(bells[2].rest, 1), TO(notes[0].key, 64)}, 6, 22},
     {{TO(drivers, 9), TO(shift, 25)}, 4, 5},
     {{TO(version, 1), TO(drivers, 0)}, 4, 5},
     {{TO(shift, 25), TO(bell_count, 0)}, 19, 6},
@@ -588,6 +766,161 @@ static const struct change changes_of_r[] = {
     {{TO(notes[2].wait_count, 0), TO(notes[3].key, 0)}, 10, 72},
 };
 
+/* S with these words changed. In version 1 its bells stand at 7, 14 and 21, in version 2 at 8, 15 and 22. */
+static const struct change changes_of_s[] = {
+    {{TO(version, 0)}, 1, 0},
+    {{TO(version, 1)}, 19, 6},
+    {{TO(version, 1), TO(shift, 0)}, 6, 14},
+    {{TO(version, 1), TO(shift, 0), TO(bells[0].rest, 1)}, 6, 7},
+    {{TO(version, 1), TO(shift, 0), TO(bells[1].rest, 0)}, 6, 21},
+    {{TO(version, 1), TO(shift, 0), TO(bells[1].rest, 0), TO(bells[2].rest, 0)}, 10, 29}, /* no bell sounds for 57 */
+    {{TO(version, 2)}, 6, 15},
+    {{TO(version, 2), TO(bells[0].rest, 1)}, 6, 8},
+    {{TO(version, 2), TO(bells[0].rest, 5001)}, 6, 8},
+    {{TO(version, 2), TO(bells[0].rest, 65536)}, 6, 8},
+    {{TO(version, 2), TO(bells[0].rest, HIGH)}, 6, 8},
+    {{TO(version, 2), TO(bells[0].rest, ALL)}, 6, 8},
+    {{TO(version, 2), TO(bells[2].rest, 0)}, 6, 15},
+    {{TO(version, 2), TO(bells[1].rest, 0)}, 6, 22},
+    {{TO(version, 2), TO(bells[1].rest, 0), TO(bells[2].rest, 0)}, 0, S_SIZE - 6},
+    {{TO(version, 2), TO(bell_count, 2)}, 6, 15},
+    {{TO(version, 2), TO(bell_count, 1)}, 10, 8 + 7 + 1 + 14}, /* note 1 strikes the second */
+    {{TO(version, 2), TO(bell_count, 1), TO(note_count, 1)}, 0, 8 + 7 + 1 + 14},
+    {{TO(version, 4)}, 1, 0},
+    {{TO(version, 256 + 3)}, 1, 0},
+    {{TO(version, HIGH + 3)}, 1, 0},
+    {{TO(version, ALL)}, 1, 0},
+    {{TO(drivers, 0)}, 4, 5},
+    {{TO(drivers, 9)}, 4, 5},
+    {{TO(drivers, 8)}, 0, S_SIZE},
+    {{TO(shift, 25)}, 19, 6},
+    {{TO(shift, 231)}, 19, 6},
+    {{TO(shift, 256 + 3)}, 19, 6},
+    {{TO(shift, ALL)}, 19, 6},
+    {{TO(shift, 24)}, 10, 36},
+    {{TO(shift, 232)}, 10, 36},
+    {{TO(shift, 0)}, 10, 36},
+    {{TO(bell_count, 0)}, 5, 7},
+    {{TO(bell_count, 97)}, 5, 7},
+    {{TO(bell_count, 256 + 3)}, 5, 7},
+    {{TO(bell_count, ALL)}, 5, 7},
+    {{TO(bell_count, 4)}, 6, 35}, /* the fourth is all zero */
+    {{TO(bell_count, 2)}, 10, 8 + 18 + 1 + 14 + 14}, /* note 2 strikes the third */
+    {{TO(bell_count, 2), TO(note_count, 2)}, 0, 8 + 18 + 1 + 14 + 14},
+    {{TO(bell_count, 2), TO(note_count, 2), TO(bells[2].rest, ALL)}, 0, 8 + 18 + 1 + 14 + 14},
+
+    {{TO(bells[0].rest, 1)}, 0, S_SIZE},
+    {{TO(bells[0].rest, 5000)}, 0, S_SIZE},
+    {{TO(bells[0].rest, 5001)}, 6, 8},
+    {{TO(bells[0].rest, 65535)}, 6, 8},
+    {{TO(bells[0].rest, 65536)}, 6, 8},
+    {{TO(bells[0].rest, 65536 + 1)}, 6, 8},
+    {{TO(bells[0].rest, HIGH + 1)}, 6, 8},
+    {{TO(bells[0].rest, ALL)}, 6, 8},
+    {{TO(bells[1].rest, 0)}, 0, S_SIZE},
+    {{TO(bells[1].rest, 4999)}, 0, S_SIZE},
+    {{TO(bells[1].rest, 5001)}, 6, 17},
+    {{TO(bells[1].rest, 65535)}, 6, 17},
+    {{TO(bells[1].rest, 65536)}, 6, 17},
+    {{TO(bells[1].rest, 65536 + 1)}, 6, 17},
+    {{TO(bells[1].rest, HIGH + 1)}, 6, 17},
+    {{TO(bells[1].rest, ALL)}, 6, 17},
+    {{TO(bells[2].rest, 0)}, 0, S_SIZE},
+    {{TO(bells[2].rest, 256)}, 0, S_SIZE},
+    {{TO(bells[2].rest, 5001)}, 6, 26},
+    {{TO(bells[2].rest, 65535)}, 6, 26},
+    {{TO(bells[2].rest, 65536)}, 6, 26},
+    {{TO(bells[2].rest, 65536 + 1)}, 6, 26},
+    {{TO(bells[2].rest, 65536 + 5000)}, 6, 26},
+    {{TO(bells[2].rest, HIGH + 1)}, 6, 26},
+    {{TO(bells[2].rest, ALL)}, 6, 26},
+    {{TO(bells[0].rest, 5000), TO(bells[1].rest, 5000)}, 0, S_SIZE},
+    {{TO(bells[1].rest, 0), TO(bells[2].rest, 0)}, 0, S_SIZE},
+    {{TO(bells[3].rest, ALL)}, 0, S_SIZE}, /* there is no fourth */
+
+    {{TO(bells[0].key, 11)}, 6, 8},
+    {{TO(bells[1].key, 256 + 64)}, 6, 17},
+    {{TO(bells[2].key, 116)}, 6, 26}, /* sounds for 120 */
+    {{TO(bells[0].transposition, 25)}, 6, 8},
+    {{TO(bells[2].transposition, 256)}, 6, 26},
+    {{TO(bells[0].least_hold, 4)}, 6, 8}, /* over the most, 3 */
+    {{TO(bells[1].least_hold, 0)}, 6, 17},
+    {{TO(bells[1].most_hold, 5001)}, 6, 17},
+    {{TO(bells[2].most_hold, 65536 + 7)}, 6, 26},
+    {{TO(bells[0].rank, 256)}, 6, 8},
+    {{TO(bells[2].rank, ALL)}, 6, 26},
+    {{TO(bells[1].transposition, 252)}, 7, 17}, /* sounds for 60 */
+    {{TO(bells[2].key, 64)}, 7, 26},            /* sounds for 68 */
+    {{TO(bells[0].transposition, 8)}, 7, 17},   /* the later of the two is named */
+
+    {{TO(note_count, 65)}, 8, 35},
+    {{TO(note_count, ALL)}, 8, 35},
+    {{TO(note_count, 6)}, 10, 113}, /* the sixth is all zero */
+    {{TO(note_count, 0)}, 0, 36},
+    {{TO(note_count, 4)}, 0, 95},
+    {{TO(notes[0].wait_count, 5)}, 9, 36},
+    {{TO(notes[2].wait_count, 256 + 1)}, 9, 64},
+    {{TO(notes[4].wait_count, ALL)}, 9, 95},
+    {{TO(notes[0].key, 60)}, 10, 36}, /* shifted to 63 */
+    {{TO(notes[0].key, 65)}, 0, S_SIZE},
+    {{TO(notes[1].key, 68)}, 10, 50},
+    {{TO(notes[2].key, 90)}, 10, 64},
+    {{TO(notes[3].key, 256 + 65)}, 10, 79},
+    {{TO(notes[4].key, ALL)}, 10, 95},
+    {{TO(notes[0].earliest_call, 2)}, 11, 36},
+    {{TO(notes[1].latest_call, 3600001)}, 11, 50},
+    {{TO(notes[2].latest_call, 3)}, 11, 64},
+    {{TO(notes[3].due, ALL)}, 11, 79},
+    {{TO(notes[4].due, 3600001)}, 11, 95},
+    {{TO(notes[4].due, 3600000)}, 0, S_SIZE},
+    {{TO(notes[0].wait_count, 1)}, 12, 36},
+    {{TO(notes[2].waits[0], 2)}, 12, 64},
+    {{TO(notes[3].waits[0], 2)}, 12, 79},
+    {{TO(notes[3].waits[1], 256 + 2)}, 12, 79},
+    {{TO(notes[4].waits[3], 4)}, 12, 95},
+
+    /* Two that are wrong. */
+    {{TO(version, 4), TO(bells[0].rest, 5001)}, 1, 0},
+    {{TO(drivers, 9), TO(bells[0].rest, 5001)}, 4, 5},
+    {{TO(shift, 25), TO(bells[0].rest, 5001)}, 19, 6},
+    {{TO(bell_count, 0), TO(bells[0].rest, 5001)}, 5, 7},
+    {{TO(bell_count, 97), TO(bells[0].rest, ALL)}, 5, 7},
+    {{TO(bells[0].rest, 5001), TO(bells[1].key, 0)}, 6, 8},
+    {{TO(bells[0].key, 0), TO(bells[1].rest, 5001)}, 6, 8},
+    {{TO(bells[0].rest, 5001), TO(bells[2].rest, 5001)}, 6, 8},
+    {{TO(bells[1].transposition, 252), TO(bells[1].rest, 5001)}, 6, 17}, /* a doubled key comes after it */
+    {{TO(bells[1].transposition, 252), TO(bells[2].rest, 5001)}, 7, 17},
+    {{TO(bells[1].rest, 5001), TO(bells[2].key, 64)}, 6, 17},
+    {{TO(bells[2].rest, 5001), TO(bells[2].key, 64)}, 6, 26},
+    {{TO(bells[2].rest, 5001), TO(note_count, 65)}, 6, 26},
+    {{TO(bells[2].rest, ALL), TO(notes[0].wait_count, 5)}, 6, 26},
+    {{TO(note_count, 65), TO(notes[0].wait_count, 5)}, 8, 35},
+    {{TO(notes[1].due, ALL), TO(notes[2].key, 0)}, 11, 50},
+    {{TO(notes[3].key, 0), TO(notes[3].due, ALL), TO(notes[3].waits[0], 2)}, 11, 79},
+    {{TO(notes[3].key, 0), TO(notes[3].waits[0], 2)}, 10, 79},
+
+    /* Two that are wrong, a rest that its version has no room for among them. */
+    {{TO(version, 1), TO(drivers, 0)}, 4, 5},
+    {{TO(version, 1), TO(bell_count, 97)}, 19, 6},
+    {{TO(version, 1), TO(shift, 0), TO(bell_count, 97)}, 5, 6},
+    {{TO(version, 1), TO(shift, 0), TO(bells[1].transposition, 252)}, 6, 14},
+    {{TO(version, 1), TO(shift, 0), TO(bells[1].transposition, 252), TO(bells[1].rest, 0)}, 7, 14},
+    {{TO(version, 2), TO(drivers, 0)}, 4, 5},
+    {{TO(version, 2), TO(shift, 25)}, 19, 6},
+    {{TO(version, 2), TO(bell_count, 0)}, 5, 7},
+    {{TO(version, 2), TO(bells[0].key, 0)}, 6, 8},
+    {{TO(version, 2), TO(bells[1].transposition, 252)}, 6, 15},
+    {{TO(version, 2), TO(bells[1].transposition, 252), TO(bells[1].rest, 0)}, 7, 15},
+    {{TO(version, 2), TO(bells[1].rest, 0), TO(bells[2].key, 64)}, 6, 22},
+    {{TO(version, 2), TO(note_count, 65)}, 6, 15},
+    {{TO(version, 2), TO(notes[0].key, 0), TO(notes[0].due, ALL)}, 6, 15},
+
+    /* An earlier note with other waits moves the places of the later ones, and version 2 moves all by 6. */
+    {{TO(notes[2].wait_count, 0), TO(notes[3].key, 0)}, 10, 78},
+    {{TO(notes[3].wait_count, 0), TO(notes[4].due, ALL)}, 11, 93},
+    {{TO(version, 2), TO(bells[1].rest, 0), TO(bells[2].rest, 0), TO(notes[4].key, 0)}, 10, 89},
+};
+
 static void set_word(struct phrase *phrase, size_t at, uint32_t value)
 {
     memcpy((uint8_t *)phrase + at, &value, sizeof value);
@@ -598,7 +931,7 @@ static void try_change(const char *origin, const struct phrase *from, const stru
     struct phrase phrase = *from;
     struct result due = {change->number, change->place, NULL}, too_short = {16, 0, NULL};
     struct file file;
-    char name[160];
+    char name[200];
     int i;
     snprintf(name, sizeof name, "%s", origin);
     for (i = 0; i < MOST_CHANGED && change->words[i].name != NULL; i++) {
@@ -631,11 +964,13 @@ static void try_changes(void)
         try_change("Q", &phrase_q, &changes[i]);
     for (i = 0; i < sizeof changes_of_r / sizeof *changes_of_r; i++)
         try_change("R", &phrase_r, &changes_of_r[i]);
+    for (i = 0; i < sizeof changes_of_s / sizeof *changes_of_s; i++)
+        try_change("S", &phrase_s, &changes_of_s[i]);
 }
 
 /* ---- What phrase_write does not look at ---- */
 
-/* Fills what is derived or spare, and all past the counts. */
+/* Fills what is derived, and all past the counts. */
 static struct phrase with_garbage(const struct phrase *phrase, uint32_t garbage)
 {
     struct phrase dirty;
@@ -649,7 +984,6 @@ static struct phrase with_garbage(const struct phrase *phrase, uint32_t garbage)
     dirty.shift = phrase->shift;
     for (i = 0; i < phrase->bell_count; i++) {
         dirty.bells[i] = phrase->bells[i];
-        dirty.bells[i].spare = garbage;
         dirty.bells[i].sounding = garbage;
     }
     for (i = 0; i < phrase->note_count; i++) {
@@ -693,6 +1027,7 @@ static void try_unset(const struct file *p)
         phrase->bells[i].least_hold = phrase_p.bells[i].least_hold;
         phrase->bells[i].most_hold = phrase_p.bells[i].most_hold;
         phrase->bells[i].rank = phrase_p.bells[i].rank;
+        phrase->bells[i].rest = 0;
         phrase->notes[i].key = phrase_p.notes[i].key;
         phrase->notes[i].earliest_call = phrase_p.notes[i].earliest_call;
         phrase->notes[i].latest_call = phrase_p.notes[i].latest_call;
@@ -707,11 +1042,12 @@ static void try_unset(const struct file *p)
 
 static void try_ignored(void)
 {
-    struct file p = from_hex("P", P), q = from_hex("Q", Q), bounds = from_hex("bounds", BOUNDS), r = from_hex("R", R);
+    struct file p = from_hex("P", P), q = from_hex("Q", Q), bounds = from_hex("bounds", BOUNDS), r = from_hex("R", R), s = from_hex("S", S);
     try_garbage(&p, &phrase_p);
     try_garbage(&q, &phrase_q);
     try_garbage(&bounds, &phrase_bounds);
     try_garbage(&r, &phrase_r);
+    try_garbage(&s, &phrase_s);
     try_unset(&p);
 }
 
@@ -750,7 +1086,7 @@ static uint32_t draw(uint32_t bound)
     return (uint32_t)(state >> 33) % bound;
 }
 
-/* Sets one field of Q or R to what fits its bytes. */
+/* Sets one field of Q, R or S to what fits its bytes, or lets a bell sound for what it or another one did at first. */
 static void edit(struct phrase *phrase)
 {
     static const uint32_t bytes[] = {0, 1, 2, 3, 4, 5, 11, 12, 24, 25, 47, 60, 64, 68, 74, 119, 120, 123, 128, 231, 232, 252, 254, 255};
@@ -758,8 +1094,8 @@ static void edit(struct phrase *phrase)
     uint32_t byte = bytes[draw(sizeof bytes / sizeof *bytes)], number = numbers[draw(sizeof numbers / sizeof *numbers)];
     struct phrase_bell *bell = &phrase->bells[draw(3)];
     struct phrase_note *note = &phrase->notes[draw(6)];
-    switch (draw(17)) {
-    case 0: phrase->version = draw(8) == 0 ? byte : 1 + draw(2); break;
+    switch (draw(19)) {
+    case 0: phrase->version = draw(8) == 0 ? byte : 1 + draw(4); break;
     case 1: phrase->drivers = byte; break;
     case 2: phrase->bell_count = byte; break;
     case 3: phrase->note_count = byte; break;
@@ -774,6 +1110,8 @@ static void edit(struct phrase *phrase)
     case 12: note->due = number; break;
     case 13: note->wait_count = byte < 243 ? byte : 0; break; /* 13 more fit the byte */
     case 14: phrase->shift = byte; break;
+    case 15: bell->rest = number & 0xFFFF; break;
+    case 16: bell->key = phrase->bells[draw(3)].sounding; bell->transposition = 0; break;
     default: note->waits[draw(4)] = byte; break;
     }
 }
@@ -790,49 +1128,84 @@ static uint64_t try_encoded(const struct file *file, const struct phrase *phrase
     return reading;
 }
 
+/* How often what its version has no room for was an edited phrase's refusal. */
+static unsigned long hidden_shifts, hidden_rests;
+
+/* What a file of the phrase's version shows: version 1 has no shift, and only version 3 has rests. */
+static struct phrase shown_of(const struct phrase *phrase)
+{
+    struct phrase shown = *phrase;
+    uint32_t i;
+    if (phrase->version == 1)
+        shown.shift = 0;
+    for (i = 0; phrase->version != 3 && i < PHRASE_MOST_BELLS; i++)
+        shown.bells[i].rest = 0;
+    return shown;
+}
+
+/* A refusal with this number and place instead of the answer, unless that names an earlier place. At one place 19 comes before 5, and 6 before 7. */
+static uint64_t unless_earlier(uint64_t answer, uint64_t number, uint64_t place, unsigned long *count)
+{
+    if (phrase_refusal(answer) != 0 && phrase_place(answer) < place)
+        return answer;
+    *count += 1;
+    return number * UINT64_C(4294967296) + place;
+}
+
+/* The answer to a phrase of which a file of its version shows less: the first of its bells that has a rest without room for it, then a shift without. */
+static uint64_t with_hidden(uint64_t reading, const struct phrase *phrase)
+{
+    uint32_t bell = 0, first = phrase->version == 1 ? 7 : 8;
+    if (phrase->version != 1 && phrase->version != 2)
+        return reading;
+    while (bell < phrase->bell_count && bell < PHRASE_MOST_BELLS && phrase->bells[bell].rest == 0)
+        bell++;
+    if (bell < phrase->bell_count && bell < PHRASE_MOST_BELLS)
+        reading = unless_earlier(reading, 6, first + 7 * bell, &hidden_rests);
+    if (phrase->version == 1 && phrase->shift != 0)
+        reading = unless_earlier(reading, 19, 6, &hidden_shifts);
+    return reading;
+}
+
 /*
- * The answer to an edited phrase is that of reading its file; but a version 1 file cannot show a shift, which is 19 at 6 unless 4 comes first. Where the phrase
- * is not refused, the file is what is written. Gives the number.
+ * The answer to an edited phrase is that of reading its file; but for a shift or a rest that its version has no room for, which the file cannot show. Where
+ * the phrase is not refused, the file is what is written. Gives the number.
  */
 static uint32_t try_edited(const struct phrase *phrase)
 {
     struct file file = encoded(phrase);
-    struct phrase shown = *phrase;
+    struct phrase shown = shown_of(phrase);
     uint8_t written[MOST_FILE];
-    uint64_t reading;
-    uint32_t number;
-    if (phrase->version == 1)
-        shown.shift = 0;
-    reading = try_encoded(&file, &shown);
-    if (shown.shift != phrase->shift && phrase_refusal(reading) != PHRASE_DRIVERS)
-        reading = UINT64_C(19) * 4294967296 + 6;
-    number = phrase_refusal(reading);
+    uint64_t reading = with_hidden(try_encoded(&file, &shown), phrase);
+    uint32_t number = phrase_refusal(reading);
     expect_answer(phrase_write(phrase, written, sizeof written), number, number == 0 ? file.size : phrase_place(reading));
     if (number == 0)
         expect(memcmp(written, file.bytes, file.size) == 0, "the file is another");
     return number;
 }
 
-/* One edit to three, one after the other, of Q and R in turn. Each number has to come of each. */
+/* One edit to three, one after the other, of Q, R and S in turn. Each number has to come of each. */
 static void try_random_edits(void)
 {
     static const uint32_t numbers[] = {0, 1, 4, 5, 6, 7, 8, 9, 10, 11, 12, 19};
-    static unsigned long found[2][20];
+    static unsigned long found[3][20];
     unsigned long i;
     for (i = 0; i < RANDOM_EDITS; i++) {
-        struct phrase phrase = i % 2 == 0 ? phrase_q : phrase_r;
+        struct phrase phrase = i % 3 == 0 ? phrase_q : i % 3 == 1 ? phrase_r : phrase_s;
         uint32_t count = 1 + draw(3), number;
         while (count-- > 0)
             edit(&phrase);
         snprintf(trial, sizeof trial, "random edit %lu", i);
         number = try_edited(&phrase);
         if (number < 20)
-            found[i % 2][number]++;
+            found[i % 3][number]++;
     }
-    for (i = 0; i < 2 * sizeof numbers / sizeof *numbers; i++) {
-        snprintf(trial, sizeof trial, "random edits of %c with number %u", "QR"[i % 2], (unsigned)numbers[i / 2]);
-        expect(found[i % 2][numbers[i / 2]] >= RANDOM_EDITS / 1000, "they are too few");
+    for (i = 0; i < 3 * sizeof numbers / sizeof *numbers; i++) {
+        snprintf(trial, sizeof trial, "random edits of %c with number %u", "QRS"[i % 3], (unsigned)numbers[i / 3]);
+        expect(found[i % 3][numbers[i / 3]] >= RANDOM_EDITS / 1000, "they are too few");
     }
+    snprintf(trial, sizeof trial, "random edits with what their version has no room for");
+    expect(hidden_shifts >= RANDOM_EDITS / 100 && hidden_rests >= RANDOM_EDITS / 100, "they are too few");
 }
 
 int main(void)
@@ -842,7 +1215,8 @@ int main(void)
     phrase_area = map_area(sizeof(struct phrase));
     try_phrases();
     try_shifted_phrases();
-    try_all_shifts();
+    try_rested_phrases();
+    try_shifts_and_rests();
     try_changes();
     try_ignored();
     try_transpositions();

@@ -25,6 +25,12 @@ struct file {
 #define P_SHIFTED_WAITING \
     "02 0000002F 01 FC 02 3C0000020002 01 3E0C00040004 02 02 0D 40 00000000 00000005 00000007 0E 4E 00000000 00000000 00000006 01"
 
+/* The same in version 3: its bells have rests of 7 and 5000, and one stroke each, so it has P's text. 55 bytes; bells at 8 and 17, notes at 27 and 41. */
+#define P_RESTED \
+    "03 00000032 01 FC 02 3C0000020002 0007 01 3E0C00040004 1388 02 02 0D 40 00000000 00000005 00000007 0D 4E 00000000 00000000 00000006"
+#define P_RESTED_WAITING \
+    "03 00000033 01 FC 02 3C0000020002 0007 01 3E0C00040004 1388 02 02 0D 40 00000000 00000005 00000007 0E 4E 00000000 00000000 00000006 01"
+
 /* One stroke of one bell, shift, key of the bell and key of the note given as digits. The note stands at 16. */
 #define ONE_STROKE(shift, bell, note) "02 00000019 01" shift "01" bell "00 0001 0001 00 01 0D" note "00000000 00000000" HOUR
 
@@ -43,6 +49,7 @@ struct file {
 
 #define UNCHANGED 0, 0x01   /* place and byte, where one is changed: byte 0 is 01 already */
 #define UNCHANGED_2 0, 0x02 /* and 02 in version 2 */
+#define UNCHANGED_3 0, 0x03 /* and 03 in version 3 */
 
 static inline void add_byte(struct file *file, unsigned byte)
 {
@@ -80,6 +87,14 @@ static inline void add_bell(struct file *file, unsigned key, unsigned shortest, 
     add_byte(file, 0);
     add_number(file, shortest, 2);
     add_number(file, longest, 2);
+    add_byte(file, rank);
+}
+
+/* The bell just added has this rest, which stands before its rank; only a version 3 file has rests, and all of its bells have one. */
+static inline void add_rest(struct file *file, unsigned rest)
+{
+    unsigned rank = file->bytes[--file->size];
+    add_number(file, rest, 2);
     add_byte(file, rank);
 }
 
@@ -164,6 +179,36 @@ static inline struct file shifted(const struct file *file, int semitones)
     return moved;
 }
 
+/* A version 2 file that is read, as version 3 with these rests, one for each bell. Where each bell has but one stroke, no answer or text changes. */
+static inline struct file rested(const struct file *file, const uint32_t *rests)
+{
+    struct file longer;
+    size_t i, bell, bells = file->bytes[7], at = 8;
+    longer.name = file->name;
+    longer.size = 0;
+    for (i = 0; i < at; i++)
+        add_byte(&longer, file->bytes[i]);
+    for (bell = 0; bell < bells; bell++) {
+        for (i = 0; i < 7; i++)
+            add_byte(&longer, file->bytes[at++]);
+        add_rest(&longer, (unsigned)rests[bell]);
+    }
+    while (at < file->size)
+        add_byte(&longer, file->bytes[at++]);
+    longer.bytes[0] = 3;
+    finish(&longer);
+    return longer;
+}
+
+/* The same with one rest for all bells. */
+static inline struct file rested_alike(const struct file *file, uint32_t rest)
+{
+    uint32_t rests[256], i;
+    for (i = 0; i < 256; i++)
+        rests[i] = rest;
+    return rested(file, rests);
+}
+
 /*
  * 62 strokes on one driver and three bells, 44, 15 and 3 of them, that may go in any order but for those of one bell. So there is one state for each choice
  * of how many strokes of each bell have started: 45 * 16 * 4 = 2880 in all, and at most 16 * 4 = 64 in a level, first in level 18. W = 128, so 16,384 words
@@ -185,8 +230,8 @@ static inline struct file crowded(void)
 }
 
 /*
- * A longest file, 7 + 96 * 7 + 1 + 64 * 14 + 246 = 1822 bytes: 96 bells and 64 notes, each with four waits, but for the first four notes, with 0 to 3, for
- * want of earlier ones.
+ * A longest file of version 1, 7 + 96 * 7 + 1 + 64 * 14 + 246 = 1822 bytes: 96 bells and 64 notes, each with four waits, but for the first four notes, with 0
+ * to 3, for want of earlier ones. In version 2 it has 1823 bytes, and in version 3 2 * 96 more, 2015.
  */
 static inline struct file longest(void)
 {

@@ -1,7 +1,7 @@
 /*
- * Provokes every name of host/phrase.h by the calls, and holds it to the number that document 01 or request 101, 102 or 104 gives: each refusal by document
- * 01's example of it, the table's words by a phrase that needs all of them, the text's bytes by a long text, the limits of a phrase and of a playing by one
- * that reaches them, and one that passes them. So a header with another number is seen.
+ * Provokes every name of host/phrase.h by the calls, and holds it to the number that document 01 or request 101, 102, 104 or 106 gives: each refusal by
+ * document 01's example of it, the table's words by a phrase that needs all of them, the text's bytes by a long text, the limits of a phrase and of a playing
+ * by one that reaches them, and one that passes them. So a header with another number is seen.
  *
  * Prints one line for each failure and a count; exit status 0 when nothing failed.
  */
@@ -27,9 +27,11 @@ static void expect(const char *about, const char *what, uint64_t found, uint64_t
 #define NOT_SHOWN                                                                                                                          \
     "01 0000003B 01 02 3C0000010002 01 3E0000030003 02 03 0D 3C 00000000 00000000 00000002 0D 3C 00000000 00000000 00000004 0D 3E 00000001" \
     "00000001 00000007"
+/* Two strokes of a bell that holds for 2 and rests for 5, on one driver: the second ends at 2 + 5 + 2 = 9, its due time. */
+#define RESTING "03 00000029 01 00 01 3C00 0002 0002 0005 01 02 0D 3C 00000000 00000000 00000002 0D 3C 00000000 00000000 00000009"
 enum { OWN = 0 }; /* words of a table: that of phrase_check */
 
-/* Document 01's examples: a file, P with a byte changed mostly; the words of the table; number and place. Then version 2 of those that differ in it. */
+/* Document 01's examples: a file, P with a byte changed mostly; the words of the table; number and place. Then versions 2 and 3 of those that differ there. */
 static const struct {
     const char *name;
     enum phrase_number named;
@@ -60,7 +62,7 @@ static const struct {
     {NAMED(PHRASE_ACCEPTED), NOT_SHOWN, 49, 0x06, OWN, 0, 0},
 
     {NAMED(PHRASE_ACCEPTED), P_SHIFTED, UNCHANGED_2, OWN, 0, 0},
-    {NAMED(PHRASE_VERSION), P_SHIFTED, 0, 0x03, OWN, 1, 0},
+    {NAMED(PHRASE_VERSION), P_SHIFTED, 0, 0x04, OWN, 1, 0},
     {NAMED(PHRASE_END), "02 00000001 01", UNCHANGED_2, OWN, 3, 6},
     {NAMED(PHRASE_END), "02 00000002 01 00", UNCHANGED_2, OWN, 3, 7},
     {NAMED(PHRASE_DRIVERS), "02 00000003 00 19 00", UNCHANGED_2, OWN, 4, 5},
@@ -70,6 +72,26 @@ static const struct {
     {NAMED(PHRASE_BELLS), "02 00000003 01 18 00", UNCHANGED_2, OWN, 5, 7},
     {NAMED(PHRASE_NO_BELL), P_SHIFTED, 6, 0xFB, OWN, 10, 23},
     {NAMED(PHRASE_LATE), P_SHIFTED, 36, 0x06, OWN, 14, 0},
+
+    {NAMED(PHRASE_ACCEPTED), P_RESTED, UNCHANGED_3, OWN, 0, 0},
+    {NAMED(PHRASE_VERSION), P_RESTED, 0, 0x04, OWN, 1, 0},
+    {NAMED(PHRASE_END), "03 00000001 01", UNCHANGED_3, OWN, 3, 6},
+    {NAMED(PHRASE_END), "03 0000000A 01 00 01 3C0000020002 00", UNCHANGED_3, OWN, 3, 8},
+    {NAMED(PHRASE_SHIFT), P_RESTED, 6, 0x19, OWN, 19, 6},
+    {NAMED(PHRASE_BELLS), "03 00000003 01 18 00", UNCHANGED_3, OWN, 5, 7},
+    {NAMED(PHRASE_BELL_FIELD), P_RESTED, 14, 0x14, OWN, 6, 8},  /* a rest of 5127 */
+    {NAMED(PHRASE_BELL_FIELD), P_RESTED, 24, 0x89, OWN, 6, 17}, /* a rest of 5001 */
+    {NAMED(PHRASE_SAME_KEY), P_RESTED, 18, 0xFE, OWN, 7, 17},
+    {NAMED(PHRASE_STROKES), P_RESTED, 26, 0x41, OWN, 8, 26},
+    {NAMED(PHRASE_NOTE_LENGTH), P_RESTED, 27, 0x0C, OWN, 9, 27},
+    {NAMED(PHRASE_NO_BELL), P_RESTED, 42, 0x42, OWN, 10, 41},
+    {NAMED(PHRASE_TIMES), P_RESTED, 32, 0x06, OWN, 11, 27},
+    {NAMED(PHRASE_WAITS), P_RESTED_WAITING, UNCHANGED_3, OWN, 12, 41},
+    {NAMED(PHRASE_TABLE_FULL), P_RESTED, UNCHANGED_3, 31, 13, 1},
+    {NAMED(PHRASE_LATE), P_RESTED, 40, 0x06, OWN, 14, 0},
+    {NAMED(PHRASE_ACCEPTED), RESTING, UNCHANGED_3, OWN, 0, 0},
+    {NAMED(PHRASE_LATE), RESTING, 15, 0x06, OWN, 14, 1}, /* a rest of 6 */
+    {NAMED(PHRASE_LATE), RESTING, 45, 0x08, OWN, 14, 1},
 };
 
 static void try_answers(void)
@@ -169,6 +191,37 @@ static void try_shift(void)
     expect(p.name, "its place", phrase_place(answer), 6);
 }
 
+/* ---- A rest that is refused, in a phrase: of bell 1, which stands at 17, in version 1 at 14 and in version 2 at 15 ---- */
+
+static void try_rest(void)
+{
+    static const struct {
+        uint32_t version, rest;
+        enum phrase_number number;
+        uint32_t place; /* or the length */
+    } writings[] = {{3, 5000, PHRASE_ACCEPTED, 55}, {3, 0, PHRASE_ACCEPTED, 55}, {2, 0, PHRASE_ACCEPTED, 51},     {1, 0, PHRASE_ACCEPTED, 50},
+                    {1, 1, PHRASE_BELL_FIELD, 14},  {2, 1, PHRASE_BELL_FIELD, 15}, {3, 5001, PHRASE_BELL_FIELD, 17}, {3, 65536, PHRASE_BELL_FIELD, 17},
+                    {4, 1, PHRASE_VERSION, 0}};
+    struct file p = from_hex("a rest", P_RESTED);
+    struct phrase phrase;
+    uint8_t file[55];
+    uint64_t answer;
+    size_t i;
+    expect(p.name, "the answer to reading P rested", phrase_read(p.bytes, p.size, &phrase), PHRASE_ACCEPTED);
+    expect(p.name, "that of bell 0", phrase.bells[0].rest, 7);
+    expect(p.name, "that of bell 1", phrase.bells[1].rest, 5000);
+    phrase.bells[0].rest = phrase.shift = 0;
+    phrase.notes[0].key -= 4;
+    phrase.notes[1].key -= 4;
+    for (i = 0; i < sizeof writings / sizeof *writings; i++) {
+        phrase.version = writings[i].version;
+        phrase.bells[1].rest = writings[i].rest;
+        answer = phrase_write(&phrase, file, sizeof file);
+        expect(p.name, "the number of writing it", phrase_refusal(answer), writings[i].number);
+        expect(p.name, "its place, or the length", phrase_place(answer), writings[i].place);
+    }
+}
+
 /* ---- A playing that is refused ---- */
 
 /* Playings of P: its call at 5 is its latest. */
@@ -211,16 +264,19 @@ static uint32_t written_number(const struct phrase *phrase)
 
 static void try_limits(void)
 {
-    struct file file = longest(), longer = shifted(&file, -24);
+    struct file file = longest(), moved = shifted(&file, -24), longer = rested_alike(&moved, 5000);
     struct phrase most, more;
     expect(file.name, "the answer to reading it", phrase_read(file.bytes, file.size, &most), PHRASE_ACCEPTED);
     expect(file.name, "the number of writing it", written_number(&most), PHRASE_ACCEPTED);
     expect("PHRASE_MOST_BELLS", "the bells", most.bell_count, PHRASE_MOST_BELLS);
     expect("PHRASE_MOST_NOTES", "the notes", most.note_count, PHRASE_MOST_NOTES);
     expect("PHRASE_MOST_WAITS", "the waits of the last note", most.notes[63].wait_count, PHRASE_MOST_WAITS);
-    expect("PHRASE_FILE_BYTES", "the name", PHRASE_FILE_BYTES, 1833); /* 8 + 96 * 7 + 1 + 64 * 18; notes cannot all have four waits */
+    expect("PHRASE_FILE_BYTES", "the name", PHRASE_FILE_BYTES, 2025); /* 8 + 96 * 9 + 1 + 64 * 18; notes cannot all have four waits */
+    expect("PHRASE_FILE_BYTES", "the answer to reading a longest file of version 2", phrase_read(moved.bytes, moved.size, &more), PHRASE_ACCEPTED);
+    expect("PHRASE_FILE_BYTES", "the number of writing it", written_number(&more), PHRASE_ACCEPTED);
     expect("PHRASE_FILE_BYTES", "the answer to reading a longest file", phrase_read(longer.bytes, longer.size, &more), PHRASE_ACCEPTED);
     expect("PHRASE_FILE_BYTES", "the number of writing it", written_number(&more), PHRASE_ACCEPTED);
+    expect("PHRASE_FILE_BYTES", "its length", longer.size, 2015);
     more = most;
     more.bell_count = PHRASE_MOST_BELLS + 1;
     expect("PHRASE_MOST_BELLS", "the refusal of one more", written_number(&more), PHRASE_BELLS);
@@ -301,6 +357,7 @@ int main(void)
     try_text_short();
     try_file_short();
     try_shift();
+    try_rest();
     try_playings();
     try_limits();
     try_playing_bytes();

@@ -1,11 +1,11 @@
 /*
  * Calls phrase_play of host/phrase.h on playings of small phrases, whose starts and ends are written here by hand; on playings that are refused, and on the
  * etude's own, cut short everywhere, with its head changed, and with each call and hold outside its range. Then on random playings, of the etude and of random
- * phrases, most of these in version 2 with a shift, whose runs are worked out here too, millisecond by millisecond, as document 01 has the dispatch rule.
- * areas.h says how memory is lent.
+ * phrases, a third of these in version 2 with a shift and a third in version 3 with rests, whose runs are worked out here too, millisecond by millisecond, as
+ * document 01 has the dispatch rule, and request 106 the rests. areas.h says how memory is lent.
  *
- * Reads the etude, the etude down a third and their playing from examples/, so it runs in the repository's root. Prints one line for each failure (the first
- * twenty) and a count; exit status 0 when nothing failed.
+ * Reads the etude, the etude down a third, the etude on heavy bells and their playing from examples/, so it runs in the repository's root. Prints one line for
+ * each failure (the first twenty) and a count; exit status 0 when nothing failed.
  */
 #define _DEFAULT_SOURCE
 #define TEST "playings"
@@ -14,7 +14,8 @@
 #include "areas.h"
 #include "files.h"
 
-enum { MOST_STROKES = 64, ARRAY = MOST_STROKES * sizeof(uint32_t), RANDOM_ETUDES = 2000, RANDOM_ETUDES_DOWN = 500, RANDOM_PHRASES = 4000 };
+enum { MOST_STROKES = 64, ARRAY = MOST_STROKES * sizeof(uint32_t) };
+enum { RANDOM_ETUDES = 2000, RANDOM_ETUDES_DOWN = 500, RANDOM_ETUDES_HEAVY = 500, RANDOM_PHRASES = 4000 };
 
 static struct area file_area, playing_area, starts_area, ends_area;
 
@@ -157,6 +158,21 @@ static void try_once(const struct file *file, const struct file *playing, struct
 /* Two strokes on one driver, both written as bell 0 is; shifted by two semitones they strike bell 1, which holds for 4 to 6 in place of 1 to 2. */
 #define OTHER_BELL "02 0000002E 01 02 02 3C00 0001 0002 01 3E00 0004 0006 01 02 0D 3C 00000000 00000009" HOUR "0D 3C 00000000 00000009" HOUR
 
+/* Two strokes of one bell, which rests for 4, on two drivers; the second may list the first, which changes nothing. The rest stands at 14. */
+#define RESTING "03 00000029 02 00 01 3C00 0003 0005 0004 01 02 0D 3C 00000000 00000009" HOUR "0D 3C 00000000 00000009" HOUR
+#define RESTING_LISTED "03 0000002A 02 00 01 3C00 0003 0005 0004 01 02 0D 3C 00000000 00000009" HOUR "0E 3C 00000000 00000009" HOUR "00"
+/* Two strokes of a bell of rank 1, which rests for 5, and one of a bell of rank 2, on one driver. */
+#define LESSER                                                                                                                          \
+    "03 00000040 01 00 02 3C00 0001 0009 0005 01 3E00 0001 0009 0000 02 03 0D 3C 00000000 00000009" HOUR "0D 3C 00000000 00000009" HOUR \
+    "0D 3E 00000000 00000009" HOUR
+/* A bell that rests for 9 and one that rests for 7, on three drivers: stroke 1 lists 0, of the other bell; 2 is of bell 1, and 3, of bell 0, lists 0 and 1. */
+#define OTHERS                                                                                                                               \
+    "03 00000051 03 00 02 3C00 0001 0009 0009 01 3E00 0001 0009 0007 01 04 0D 3C 00000000 00000009" HOUR "0E 3E 00000000 00000009" HOUR "00" \
+    "0D 3E 00000000 00000009" HOUR "0F 3C 00000000 00000009" HOUR "00 01"
+/* Three strokes of one bell, which rests for 3; the last lists the first, whose rest is over long before. */
+#define THREE \
+    "03 00000038 01 00 01 3C00 0001 0009 0003 01 03 0D 3C 00000000 00000009" HOUR "0D 3C 00000000 00000009" HOUR "0E 3C 00000000 00000009" HOUR "00"
+
 static const struct {
     const char *name, *hex;
     size_t at;
@@ -196,6 +212,32 @@ static const struct {
     {"another bell, shift 0", OTHER_BELL, 6, 0x00, {2, {0, 0}, {1, 2}}, {{0, 1}, {1, 3}}},
     {"key 143 shifted by -24", ONE_STROKE("E8", "77", "8F"), UNCHANGED_2, {1, {0}, {1}}, {{0}, {1}}},
     {"key 0 shifted by 24", ONE_STROKE("18", "18", "00"), UNCHANGED_2, {1, {0}, {1}}, {{0}, {1}}},
+    {"P rested", P_RESTED, UNCHANGED_3, {2, {1, 0}, {2, 4}}, {{4, 0}, {6, 4}}}, /* a bell's first stroke waits for no rest */
+    {"P rested", P_RESTED, UNCHANGED_3, {2, {5, 0}, {2, 4}}, {{5, 0}, {7, 4}}},
+    {"P rested, stroke 0 due 6", P_RESTED, 40, 0x06, {2, {5, 0}, {2, 4}}, {{5, 0}, {7, 4}}},
+    {"a bell that rests", RESTING, UNCHANGED_3, {2, {0, 0}, {3, 5}}, {{0, 7}, {3, 12}}},
+    {"a bell that rests", RESTING, UNCHANGED_3, {2, {0, 0}, {5, 5}}, {{0, 9}, {5, 14}}},
+    {"a bell that rests", RESTING, UNCHANGED_3, {2, {9, 0}, {4, 3}}, {{9, 17}, {13, 20}}},
+    {"a bell that rests", RESTING, UNCHANGED_3, {2, {0, 6}, {3, 3}}, {{0, 7}, {3, 10}}},
+    {"a bell that rests", RESTING, UNCHANGED_3, {2, {0, 7}, {3, 3}}, {{0, 7}, {3, 10}}}, /* called when the rest is over */
+    {"a bell that rests", RESTING, UNCHANGED_3, {2, {0, 8}, {3, 3}}, {{0, 8}, {3, 11}}},
+    {"a bell that rests for 0", RESTING, 15, 0x00, {2, {0, 0}, {3, 5}}, {{0, 3}, {3, 8}}},
+    {"a bell that rests for 1", RESTING, 15, 0x01, {2, {0, 0}, {3, 5}}, {{0, 4}, {3, 9}}},
+    {"a bell that rests for 4868", RESTING, 14, 0x13, {2, {0, 9}, {3, 5}}, {{0, 4871}, {3, 4876}}},
+    {"a bell that rests, on one driver", RESTING, 5, 0x01, {2, {0, 0}, {3, 5}}, {{0, 7}, {3, 12}}},
+    {"a bell that rests, listed too", RESTING_LISTED, UNCHANGED_3, {2, {0, 0}, {3, 5}}, {{0, 7}, {3, 12}}},
+    {"a bell that rests, listed too", RESTING_LISTED, UNCHANGED_3, {2, {0, 8}, {3, 3}}, {{0, 8}, {3, 11}}},
+    {"a lesser stroke", LESSER, UNCHANGED_3, {3, {0, 0, 0}, {3, 2, 4}}, {{0, 8, 3}, {3, 10, 7}}}, /* it goes first; then the driver is idle */
+    {"a lesser stroke", LESSER, UNCHANGED_3, {3, {0, 0, 0}, {3, 2, 5}}, {{0, 8, 3}, {3, 10, 8}}},
+    {"a lesser stroke", LESSER, UNCHANGED_3, {3, {0, 0, 0}, {3, 2, 9}}, {{0, 12, 3}, {3, 14, 12}}},
+    {"a lesser stroke", LESSER, UNCHANGED_3, {3, {0, 0, 7}, {3, 2, 9}}, {{0, 16, 7}, {3, 18, 16}}},
+    {"a lesser stroke", LESSER, UNCHANGED_3, {3, {0, 0, 8}, {3, 2, 9}}, {{0, 8, 10}, {3, 10, 19}}}, /* both are ready at 8 */
+    {"a lesser stroke, no rest", LESSER, 15, 0x00, {3, {0, 0, 0}, {3, 2, 4}}, {{0, 3, 5}, {3, 5, 9}}},
+    {"rests of others", OTHERS, UNCHANGED_3, {4, {0, 0, 0, 0}, {4, 5, 1, 2}}, {{0, 4, 16, 13}, {4, 9, 17, 15}}},
+    {"rests of others", OTHERS, UNCHANGED_3, {4, {0, 0, 0, 0}, {4, 9, 1, 2}}, {{0, 4, 20, 13}, {4, 13, 21, 15}}},
+    {"rests of others", OTHERS, UNCHANGED_3, {4, {0, 9, 0, 0}, {1, 9, 1, 2}}, {{0, 9, 25, 18}, {1, 18, 26, 20}}}, /* 3 waits for 1, not for its rest */
+    {"three strokes", THREE, UNCHANGED_3, {3, {0, 0, 0}, {9, 1, 2}}, {{0, 12, 16}, {9, 13, 18}}},
+    {"three strokes", THREE, UNCHANGED_3, {3, {9, 0, 0}, {1, 9, 9}}, {{9, 13, 25}, {10, 22, 34}}},
 };
 
 static void try_runs(void)
@@ -210,7 +252,21 @@ static void try_runs(void)
     }
 }
 
-/* 64 strokes on one driver, all called at the last moment and held as long as can be: no end is later than 3600000 + 64 * 5000. */
+/* 64 strokes of one bell on one driver, called at the last moment, held and rested as long as can be: no end is later than 3600000 + 127 * 5000. */
+static void try_latest_rested(struct file file, const struct file *bytes)
+{
+    struct run run;
+    uint32_t i;
+    file = shifted(&file, 0);
+    file = rested_alike(&file, 5000);
+    for (i = 0; i < 64; i++) {
+        run.starts[i] = 3600000 + 10000 * i;
+        run.ends[i] = run.starts[i] + 5000;
+    }
+    try_play(&file, bytes, worked_out, &run);
+}
+
+/* 64 strokes on one driver, all called at the last moment and held as long as can be: without rests, no end is later than 3600000 + 64 * 5000. */
 static void try_latest(void)
 {
     struct file file = begin("64 strokes after an hour", 1, 1), bytes;
@@ -230,9 +286,10 @@ static void try_latest(void)
     finish(&file);
     bytes = encoded("by hand", &playing);
     try_play(&file, &bytes, worked_out, &run);
+    try_latest_rested(file, &bytes);
 }
 
-/* Each stroke of the longest file waits for the one before it. */
+/* Each stroke of the longest file waits for the one before it, which is of another bell, so no rest matters. */
 static void try_longest(void)
 {
     struct file file = longest(), bytes;
@@ -251,6 +308,9 @@ static void try_longest(void)
     expect_number(bytes.size, 389, "its length");
     try_play(&file, &bytes, worked_out, &run);
     file = shifted(&file, -24);
+    try_play(&file, &bytes, worked_out, &run);
+    file = rested_alike(&file, 5000);
+    expect_number(file.size, 2015, "the length of the longest file");
     try_play(&file, &bytes, worked_out, &run);
     bytes.size--;
     try_play(&file, &bytes, wrong_playing, &no_run);
@@ -283,7 +343,7 @@ static const struct {
     {"row 11", P, 27, 0x06, PLAYING_P, {11, 22}},
     {"row 12", P_WAITING, UNCHANGED, PLAYING_P, {12, 36}},
     {"row 12", P_WAITING, UNCHANGED, "01 0000000C FFFFFFFF FFFF 00000000 0004", {12, 36}},
-    {"version 3", P_SHIFTED, 0, 0x03, PLAYING_P, {1, 0}},
+    {"version 4", P_SHIFTED, 0, 0x04, PLAYING_P, {1, 0}},
     {"version 2, row 4, shift 25", "02 00000002 00 19", UNCHANGED_2, PLAYING_P, {4, 5}},
     {"no shift", "02 00000001 01", UNCHANGED_2, "01 00000000", {3, 6}},
     {"P shifted by 25", P_SHIFTED, 6, 0x19, PLAYING_P, {19, 6}},
@@ -295,6 +355,18 @@ static const struct {
     {"version 2, row 5", "02 00000003 01 00 00", UNCHANGED_2, PLAYING_P, {5, 7}},
     {"P shifted by -3", P_SHIFTED, 6, 0xFD, PLAYING_P, {10, 23}},
     {"version 2, row 12", P_SHIFTED_WAITING, UNCHANGED_2, PLAYING_P, {12, 37}},
+    {"P rested as version 4", P_RESTED, 0, 0x04, PLAYING_P, {1, 0}},
+    {"P rested as version 4", P_RESTED, 0, 0x04, "", {1, 0}},
+    {"P rested as version 2", P_RESTED, 0, 0x02, PLAYING_P, {6, 15}}, /* a bell of key 7 */
+    {"P shifted as version 3", P_SHIFTED, 0, 0x03, PLAYING_P, {6, 17}}, /* a bell of key 0 */
+    {"version 3, no shift", "03 00000001 01", UNCHANGED_3, "01 00000000", {3, 6}},
+    {"version 3, shift 25", P_RESTED, 6, 0x19, PLAYING_P, {19, 6}},
+    {"version 3, row 5", "03 00000003 01 00 00", UNCHANGED_3, PLAYING_P, {5, 7}},
+    {"version 3, cut in the rest", "03 0000000A 01 FC 01 3C0000020002 00", UNCHANGED_3, PLAYING_P, {3, 8}},
+    {"P rested, rest 5127", P_RESTED, 14, 0x14, PLAYING_P, {6, 8}},
+    {"P rested, rest 5001", P_RESTED, 24, 0x89, "02 0000000C 00000006 0002 00000000 0004", {6, 17}},
+    {"version 3, row 10", P_RESTED, 42, 0x42, PLAYING_P, {10, 41}},
+    {"version 3, row 12", P_RESTED_WAITING, UNCHANGED_3, PLAYING_P, {12, 41}},
     /* Then 17. */
     {"P", P, UNCHANGED, "", {17, 0}},
     {"P", P, UNCHANGED, "01", {17, 0}},
@@ -326,6 +398,8 @@ static const struct {
     {"P shifted", P_SHIFTED, UNCHANGED_2, "", {17, 0}},
     {"P shifted", P_SHIFTED, UNCHANGED_2, "02 0000000C 00000005 0002 00000000 0004", {17, 0}}, /* a playing has one version */
     {"P shifted", P_SHIFTED, UNCHANGED_2, "01 0000000D 00000005 0002 00000000 0004", {17, 0}},
+    {"P rested", P_RESTED, UNCHANGED_3, "", {17, 0}},
+    {"P rested", P_RESTED, UNCHANGED_3, "03 0000000C 00000005 0002 00000000 0004", {17, 0}},
     /* Then 18. */
     {"P", P, UNCHANGED, "01 0000000C 00000006 0002 00000000 0004", {18, 0}},
     {"P", P, UNCHANGED, "01 0000000C 00000105 0002 00000000 0004", {18, 0}},
@@ -344,6 +418,10 @@ static const struct {
     {"P shifted", P_SHIFTED, UNCHANGED_2, "01 0000000C 00000005 0002 00000000 0005", {18, 1}},
     {"another bell", OTHER_BELL, UNCHANGED_2, "01 0000000C 00000000 0002 00000000 0006", {18, 0}}, /* a hold of bell 0, which is not struck */
     {"another bell", OTHER_BELL, UNCHANGED_2, "01 0000000C 00000000 0004 00000000 0001", {18, 1}},
+    {"P rested", P_RESTED, UNCHANGED_3, "01 0000000C 00000006 0002 00000000 0004", {18, 0}},
+    {"P rested", P_RESTED, UNCHANGED_3, "01 0000000C 00000005 0002 00000000 0005", {18, 1}},
+    {"a bell that rests", RESTING, UNCHANGED_3, "01 0000000C 00000000 0003 00000000 0006", {18, 1}}, /* a rest makes no hold longer */
+    {"a bell that rests", RESTING, UNCHANGED_3, "01 0000000C 00000000 0007 0000000A 0003", {18, 0}},
 };
 
 static void try_refusals(void)
@@ -362,7 +440,7 @@ static void try_refusals(void)
     try_play(&file, &playing, (struct answer){2, 0}, &no_run);
 }
 
-/* ---- The run of document 01's dispatch rule, millisecond by millisecond ---- */
+/* ---- The run of document 01's dispatch rule, with the rests of request 106, millisecond by millisecond ---- */
 
 enum status { WAITING, HOLDING, DONE };
 
@@ -374,19 +452,27 @@ struct simulation {
     struct run run;
 };
 
+/* The nearest earlier stroke of a stroke's bell is done, and has been for the bell's rest. */
+static int is_rested(const struct simulation *now, uint32_t i, uint32_t t)
+{
+    const struct phrase_note *notes = now->phrase->notes;
+    uint32_t earlier = i;
+    while (earlier-- > 0)
+        if (notes[earlier].bell == notes[i].bell)
+            return now->status[earlier] == DONE && now->run.ends[earlier] + now->phrase->bells[notes[i].bell].rest <= t;
+    return 1;
+}
+
 static int is_ready(const struct simulation *now, uint32_t i, uint32_t t)
 {
     const struct phrase_note *notes = now->phrase->notes;
-    uint32_t wait, earlier = i;
+    uint32_t wait;
     if (now->status[i] != WAITING || now->playing->calls[i] > t)
         return 0;
     for (wait = 0; wait < notes[i].wait_count; wait++)
         if (now->status[notes[i].waits[wait]] != DONE)
             return 0;
-    while (earlier-- > 0)
-        if (notes[earlier].bell == notes[i].bell)
-            return now->status[earlier] == DONE;
-    return 1;
+    return is_rested(now, i, t);
 }
 
 static uint32_t rank_of(const struct phrase *phrase, uint32_t i)
@@ -593,16 +679,45 @@ static struct playing random_playing(const struct phrase *phrase)
     return playing;
 }
 
-/* Some random playings of a phrase. */
-static void try_random(const struct file *file, const struct phrase *phrase, const struct reported *reported, unsigned count)
+/* Every stroke of a bell starts at least the bell's rest after each earlier one of that bell ended. */
+static void expect_rested(const struct phrase *phrase, const struct run *run)
 {
+    uint32_t i, earlier;
+    int rested = 1;
+    for (i = 0; i < phrase->note_count; i++)
+        for (earlier = 0; earlier < i; earlier++)
+            if (phrase->notes[earlier].bell == phrase->notes[i].bell)
+                rested &= run->ends[earlier] + phrase->bells[phrase->notes[i].bell].rest <= run->starts[i];
+    expect(rested, "a bell did not rest");
+}
+
+/* Whether a playing's run would be another if no bell rested. */
+static int rests_matter(const struct phrase *phrase, const struct playing *playing, const struct run *run)
+{
+    struct phrase restless = *phrase;
+    struct run other;
+    uint32_t i;
+    for (i = 0; i < restless.bell_count; i++)
+        restless.bells[i].rest = 0;
+    other = simulated(&restless, playing);
+    return memcmp(&other, run, sizeof other) != 0;
+}
+
+/* Some random playings of a phrase; gives in how many of them rests matter. */
+static unsigned try_random(const struct file *file, const struct phrase *phrase, const struct reported *reported, unsigned count)
+{
+    unsigned rested_otherwise = 0;
     while (count-- > 0) {
         struct playing playing = random_playing(phrase);
         struct run run = simulated(phrase, &playing);
         struct file bytes = encoded("a random playing", &playing);
         try_once(file, &bytes, worked_out, &run);
         expect_inside(phrase, &run, reported);
+        expect_rested(phrase, &run);
+        if (phrase->version == 3)
+            rested_otherwise += (unsigned)rests_matter(phrase, &playing, &run);
     }
+    return rested_otherwise;
 }
 
 /* Strokes that have to wait: short calls, ranks and waits at random, few drivers. Every 16th is as long as a phrase can be. */
@@ -624,22 +739,39 @@ static struct file random_phrase(unsigned number)
     return file;
 }
 
-/* Phrases that the check accepts, and others; each kind has to come. Two of three are in version 2, shifted. */
+/* A third of them plain, a third in version 2, shifted, and a third in version 3, with rests too: some 0, most about as long as a hold, few far longer. */
+static struct file random_file(unsigned number)
+{
+    struct file file = random_phrase(number);
+    uint32_t rests[PHRASE_MOST_BELLS], i;
+    if (number % 3 == 0)
+        return file;
+    file = shifted(&file, (int)(number % 49) - 24);
+    if (number % 3 == 1)
+        return file;
+    for (i = 0; i < PHRASE_MOST_BELLS; i++)
+        rests[i] = draw(4) == 0 ? 0 : draw(16) == 0 ? 10 + draw(90) : 1 + draw(10);
+    return rested(&file, rests);
+}
+
+/* Phrases that the check accepts, and others; each kind has to come in each version, and rests have to matter in one of three playings of version 3. */
 static void try_random_phrases(void)
 {
     static const uint32_t numbers[] = {PHRASE_ACCEPTED, PHRASE_TABLE_FULL, PHRASE_LATE};
-    unsigned i, found[PHRASE_LATE + 1] = {0};
+    unsigned i, found[3][PHRASE_LATE + 1] = {{0}}, rested_otherwise = 0;
     for (i = 0; i < RANDOM_PHRASES; i++) {
-        struct file plain = random_phrase(i), file = i % 3 == 0 ? plain : shifted(&plain, (int)(i % 49) - 24);
+        struct file file = random_file(i);
         struct phrase phrase = phrase_of(&file);
         struct reported reported = reported_of(&file);
-        found[reported.number]++;
-        try_random(&file, &phrase, &reported, 3);
+        found[i % 3][reported.number]++;
+        rested_otherwise += try_random(&file, &phrase, &reported, 3);
     }
-    for (i = 0; i < sizeof numbers / sizeof *numbers; i++) {
-        snprintf(trial, sizeof trial, "random phrases with number %u", (unsigned)numbers[i]);
-        expect(found[numbers[i]] >= RANDOM_PHRASES / 1000, "they are too few");
+    for (i = 0; i < 3 * sizeof numbers / sizeof *numbers; i++) {
+        snprintf(trial, sizeof trial, "random phrases of version %u with number %u", i % 3 + 1, (unsigned)numbers[i / 3]);
+        expect(found[i % 3][numbers[i / 3]] > 0, "there are none");
     }
+    snprintf(trial, sizeof trial, "random playings in which rests matter");
+    expect(rested_otherwise >= RANDOM_PHRASES / 3, "they are too few");
 }
 
 static void try_etude(void)
@@ -676,6 +808,24 @@ static void try_etude_down(void)
     try_random(&down, &lower, &reported, RANDOM_ETUDES_DOWN);
 }
 
+/* The etude on heavy bells, in its playing and in random ones: stroke 19 has to wait until its bell, that of stroke 18, has rested; all others do as there. */
+static void try_etude_heavy(void)
+{
+    struct file etude = from_disk("examples/etude.phrase"), heavy = from_disk("examples/etude-heavy.phrase"), bytes = from_disk("examples/etude.playing");
+    struct phrase phrase = phrase_of(&etude), heavier = phrase_of(&heavy);
+    struct playing playing = decoded(&bytes);
+    struct run run = simulated(&heavier, &playing), light = simulated(&phrase, &playing);
+    struct reported reported = reported_of(&heavy);
+    uint32_t rest = heavier.bells[heavier.notes[19].bell].rest, i;
+    try_play(&heavy, &bytes, worked_out, &run);
+    expect_number(reported.number, 0, "the number of the etude on heavy bells");
+    expect_inside(&heavier, &run, &reported);
+    expect(rest > 0 && heavier.notes[18].bell == heavier.notes[19].bell, "there is no rest to wait for");
+    for (i = 0; i < heavier.note_count; i++)
+        expect_number(run.starts[i], i == 19 ? run.ends[18] + rest : light.starts[i], "a start");
+    expect_number(try_random(&heavy, &heavier, &reported, RANDOM_ETUDES_HEAVY), RANDOM_ETUDES_HEAVY, "the number of playings in which rests matter");
+}
+
 int main(void)
 {
     begin_test();
@@ -689,6 +839,7 @@ int main(void)
     try_refusals();
     try_etude();
     try_etude_down();
+    try_etude_heavy();
     try_random_phrases();
     return end_test();
 }

@@ -1,7 +1,7 @@
 /*
  * Makes the seven calls of host/phrase.h from several threads at the same time, on phrases with different answers, and holds each answer, text, file and run
- * to what document 01 and requests 101, 102 and 104 say. Buffers are the threads' own; only the files and the playing are shared, which the calls only read.
- * The threads have as much stack as phrase.h says that every call can do with.
+ * to what document 01 and requests 101, 102, 104 and 106 say. Buffers are the threads' own; only the files and the playing are shared, which the calls only
+ * read. The threads have as much stack as phrase.h says that every call can do with.
  *
  * Prints one line for each thread that saw a difference, else a count; exit status 0 when there was none.
  */
@@ -13,17 +13,22 @@
 
 #include "phrase.h"
 
-enum { THREADS = 12, ROUNDS = 4000, CALLS = 7, WORDS = 64, ROOM = 200, STACK = 128 * 1024 };
+enum { THREADS = 18, ROUNDS = 4000, CALLS = 7, WORDS = 64, ROOM = 200, STACK = 128 * 1024 };
 
+/* A file, what is said of it, and what the playing below makes of it. */
 struct example {
     const char *name;
-    uint8_t file[51];
+    uint8_t file[55];
     size_t size;
     uint64_t answer;
     const char *text;
+    uint32_t starts[PHRASE_MOST_NOTES], ends[PHRASE_MOST_NOTES];
 };
 
-/* P, P with stroke 0 due 6, P with byte 37 = 3E, a file without m, P shifted down by four semitones, with keys as much higher, and P shifted by 25. */
+/*
+ * P, P with stroke 0 due 6, P with byte 37 = 3E, a file without m, P shifted down by four semitones, with keys as much higher, and P shifted by 25; the same in
+ * version 3, with rests of 7 and 5000, and with one of 5001; two strokes of one bell that holds for 2..4 and rests for 3, called at 0..5.
+ */
 #define P_TO_DUE                                                                                                                                   \
     0x01, 0x00, 0x00, 0x00, 0x2D, 0x01, 0x02, 0x3C, 0x00, 0x00, 0x02, 0x00, 0x02, 0x01, 0x3E, 0x0C, 0x00, 0x04, 0x00, 0x04, 0x02, 0x02, 0x0D, 0x3C, \
         0x00, 0x00, 0x00, 0x00, 0x00, 0x00, 0x00, 0x05, 0x00, 0x00, 0x00
@@ -31,22 +36,37 @@ struct example {
 #define P_SHIFTED(shift)                                                                                                                                  \
     0x02, 0x00, 0x00, 0x00, 0x2E, 0x01, shift, 0x02, 0x3C, 0x00, 0x00, 0x02, 0x00, 0x02, 0x01, 0x3E, 0x0C, 0x00, 0x04, 0x00, 0x04, 0x02, 0x02, 0x0D, 0x40, \
         0x00, 0x00, 0x00, 0x00, 0x00, 0x00, 0x00, 0x05, 0x00, 0x00, 0x00, 0x07, P_FROM_KEY(0x4E)
+#define P_RESTED(low)                                                                                                                                    \
+    0x03, 0x00, 0x00, 0x00, 0x32, 0x01, 0xFC, 0x02, 0x3C, 0x00, 0x00, 0x02, 0x00, 0x02, 0x00, 0x07, 0x01, 0x3E, 0x0C, 0x00, 0x04, 0x00, 0x04, 0x13, low, \
+        0x02, 0x02, 0x0D, 0x40, 0x00, 0x00, 0x00, 0x00, 0x00, 0x00, 0x00, 0x05, 0x00, 0x00, 0x00, 0x07, P_FROM_KEY(0x4E)
+#define TWICE                                                                                                                                       \
+    0x03, 0x00, 0x00, 0x00, 0x29, 0x01, 0x00, 0x01, 0x3C, 0x00, 0x00, 0x02, 0x00, 0x04, 0x00, 0x03, 0x01, 0x02, 0x0D, 0x3C, 0x00, 0x00, 0x00, 0x00, \
+        0x00, 0x00, 0x00, 0x05, 0x00, 0x00, 0x00, 0x09, 0x0D, 0x3C, 0x00, 0x00, 0x00, 0x00, 0x00, 0x00, 0x00, 0x05, 0x00, 0x00, 0x00, 0x10
 #define P_TEXT                                               \
     "stroke 0 key C4 bell 0 ends 2..7 response 2..7 due 7\n" \
     "stroke 1 key D5 bell 1 ends 4..6 response 4..6 due 6\n" \
     "accepted strokes 2 states 4 hold 6\n"
+#define TWICE_TEXT                                              \
+    "stroke 0 key C4 bell 0 ends 2..9 response 2..9 due 9\n"    \
+    "stroke 1 key C4 bell 0 ends 7..16 response 7..16 due 16\n" \
+    "accepted strokes 2 states 3 hold 8\n"
+#define P_RUN {4, 0}, {6, 4}
+#define NO_RUN {0, 0}, {0, 0}
 
 static const struct example examples[] = {
-    {"P", {P_TO_DUE, 0x07, P_FROM_KEY(0x4A)}, 50, 0, P_TEXT},
-    {"P, stroke 0 due 6", {P_TO_DUE, 0x06, P_FROM_KEY(0x4A)}, 50, UINT64_C(14) << 32, "refused 14 stroke 0 ends 6..7\n"},
-    {"row 10", {P_TO_DUE, 0x07, P_FROM_KEY(0x3E)}, 50, (UINT64_C(10) << 32) + 36, "refused 10 at 36\n"},
-    {"no m", {0x01, 0x00, 0x00, 0x00, 0x00}, 5, (UINT64_C(3) << 32) + 5, "refused 3 at 5\n"},
-    {"P shifted", {P_SHIFTED(0xFC)}, 51, 0, P_TEXT},
-    {"P shifted by 25", {P_SHIFTED(0x19)}, 51, (UINT64_C(19) << 32) + 6, "refused 19 at 6\n"},
+    {"P", {P_TO_DUE, 0x07, P_FROM_KEY(0x4A)}, 50, 0, P_TEXT, P_RUN},
+    {"P, stroke 0 due 6", {P_TO_DUE, 0x06, P_FROM_KEY(0x4A)}, 50, UINT64_C(14) << 32, "refused 14 stroke 0 ends 6..7\n", P_RUN},
+    {"row 10", {P_TO_DUE, 0x07, P_FROM_KEY(0x3E)}, 50, (UINT64_C(10) << 32) + 36, "refused 10 at 36\n", NO_RUN},
+    {"no m", {0x01, 0x00, 0x00, 0x00, 0x00}, 5, (UINT64_C(3) << 32) + 5, "refused 3 at 5\n", NO_RUN},
+    {"P shifted", {P_SHIFTED(0xFC)}, 51, 0, P_TEXT, P_RUN},
+    {"P shifted by 25", {P_SHIFTED(0x19)}, 51, (UINT64_C(19) << 32) + 6, "refused 19 at 6\n", NO_RUN},
+    {"P rested", {P_RESTED(0x88)}, 55, 0, P_TEXT, P_RUN},
+    {"P rested, rest 5001", {P_RESTED(0x89)}, 55, (UINT64_C(6) << 32) + 17, "refused 6 at 17\n", NO_RUN},
+    {"a bell twice", {TWICE}, 46, 0, TWICE_TEXT, {1, 6}, {3, 10}},
 };
 enum { EXAMPLES = sizeof examples / sizeof *examples };
 
-/* A playing of P: stroke 0 is called while stroke 1 holds the driver. */
+/* A playing of P, in which stroke 0 is called while stroke 1 holds the driver; and one of two strokes of one bell, which keep their order. */
 static const uint8_t playing[] = {0x01, 0x00, 0x00, 0x00, 0x0C, 0x00, 0x00, 0x00, 0x01, 0x00, 0x02, 0x00, 0x00, 0x00, 0x00, 0x00, 0x04};
 
 /* What a thread works on, and how many of its calls differed. */
@@ -83,13 +103,11 @@ static int is_written(const struct player *player)
 /* The playing is worked out, also of the late phrase. Where the file is refused, all is zero. */
 static int is_played(const struct example *example)
 {
-    static const uint32_t none[PHRASE_MOST_NOTES], due_starts[PHRASE_MOST_NOTES] = {4, 0}, due_ends[PHRASE_MOST_NOTES] = {6, 4};
     uint32_t starts[PHRASE_MOST_NOTES], ends[PHRASE_MOST_NOTES];
-    int refused = reading(example) != 0;
     memset(starts, 0xA5, sizeof starts);
     memset(ends, 0xA5, sizeof ends);
     return phrase_play(example->file, example->size, playing, sizeof playing, starts, ends) == reading(example)
-           && memcmp(starts, refused ? none : due_starts, sizeof starts) == 0 && memcmp(ends, refused ? none : due_ends, sizeof ends) == 0;
+           && memcmp(starts, example->starts, sizeof starts) == 0 && memcmp(ends, example->ends, sizeof ends) == 0;
 }
 
 static void *play(void *argument)

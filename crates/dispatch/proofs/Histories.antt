@@ -1,5 +1,5 @@
 -- The words of a run as a history. Assumes nothing.
-use Prim.Native.Nat.{ℕ, _≤_, _<_}
+use Prim.Native.Nat.{ℕ, _+_, _≤_, _<_}
 use mathlib.Core.Path.{_≡_, refl, sym, ap, ap₂, _∙_}
 use mathlib.Core.Bool.{Bool, true, false, cond, true≢false}
 use mathlib.Core.List.{List}
@@ -10,7 +10,7 @@ use lib.Dec.{eqb}
 use lib.ListN.{getD, length, set, replicate, length-set, length-replicate, getD-replicate}
 use lib.Seq.{getD-set-same, getD-set-other, ext-getD}
 use borrow.Author.Tests.{eq-eqb, ne-eqb, eqb-true, eqb-false}
-use Rattle.model.proofs.History.{Entry, unstarted, ran, entry, hasStarted, Finished}
+use Rattle.model.proofs.History.{Entry, unstarted, ran, entry, hasStarted, Rested}
 use Rattle.model.proofs.Whole.{startIn, finishIn}
 use Rattle.words.proofs.Tabulate.{length-tabulate, getD-tabulate}
 use Rattle.dispatch.specs.internal.Turns.{entryIn, historyOf}
@@ -31,10 +31,10 @@ module _ (a f : ℕ) where
   pub entry-ran : (f ≡ 0 → ⊥) → entryIn a f ≡ ran a f
   entry-ran n = rw (ne-eqb f 0 n) refl
 
-  pub finished-by : (v : ℕ) → Finished v (entryIn a f) → (f ≡ 0 → ⊥) × (f ≤ v)
-  finished-by v x = go (eqb f 0) refl x
+  pub rested-by : (v r : ℕ) → Rested v r (entryIn a f) → (f ≡ 0 → ⊥) × (f + r ≤ v)
+  rested-by v r x = go (eqb f 0) refl x
     where
-      go : (b : Bool) → eqb f 0 ≡ b → Finished v (cond b unstarted (ran a f)) → (f ≡ 0 → ⊥) × (f ≤ v)
+      go : (b : Bool) → eqb f 0 ≡ b → Rested v r (cond b unstarted (ran a f)) → (f ≡ 0 → ⊥) × (f + r ≤ v)
       go true q x = absurd x
       go false q x = (eqb-false f 0 q, x)
 

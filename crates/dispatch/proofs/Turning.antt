@@ -12,23 +12,25 @@ use lib.ListN.{getD, length, set, length-set}
 use lib.Seq.{getD-set-same, getD-set-other}
 use borrow.Author.Tests.{lt-ltb, le-ltb, ltb-true, ltb-false, eq-eqb, ne-eqb, eqb-true, eqb-false, not-true, not-false}
 use Rattle.model.specs.Folds.{ind, count, member}
-use Rattle.model.specs.Jobs.{Job, job, predecessors, before}
+use Rattle.model.specs.Limits.{longestRest}
+use Rattle.model.specs.Jobs.{Job, job, predecessors, restOf, before}
 use Rattle.model.specs.Dispatch.{Scenario}
 use Rattle.model.specs.Playing.{horizon, startTime, finishTime}
 use Rattle.model.proofs.Booleans.{cases}
 use Rattle.model.proofs.Folds.{count-set, count-below, count-all, AllBelow, FirstFailing, first-failing, sum-lt}
 use Rattle.model.proofs.Priority.{Before, before-out}
 use Rattle.model.proofs.Predecessors.{predecessor-earlier}
-use Rattle.model.proofs.History.{Entry, ran, entry, hasStarted, busy, Finished, busy-start, Ready}
+use Rattle.model.proofs.Rests.{rest-at-most}
+use Rattle.model.proofs.History.{Entry, ran, entry, hasStarted, busy, Rested, busy-start, Ready}
 use Rattle.model.proofs.Following.{Stage, NoStart, stage-start, stage-over}
 use Rattle.jobs.specs.internal.JobRow.{rowWords, jobsOfRows, priorityAt}
 use Rattle.jobs.proofs.Jobs.{length-jobs, field-of}
 use Rattle.playing.specs.Playing.{scenarioIn}
-use Rattle.dispatch.specs.internal.Wakes.{asleep, startedWord, wakeOf, wordOf, wokenBy, EachWakes}
+use Rattle.dispatch.specs.internal.Wakes.{asleep, startedWord, lastMoment, wakeOf, wordOf, wokenBy, EachWakes}
 use Rattle.dispatch.specs.internal.Choice.{IsFirst, keyOf, IsNext}
 use Rattle.dispatch.specs.internal.Turns.{Dispatchable, historyOf, unstartedIn, ZeroFrom, Standing, WordsKept, Turn, Over, Turned}
 use Rattle.dispatch.proofs.Waking.{awake, wakes-by, waits-for, wake-same, woken-anew, woken-as-before}
-use Rattle.dispatch.proofs.Histories.{fresh-zero, zero-fresh, entry-ran, finished-by, ran-same, length-history, entry-of, history-set}
+use Rattle.dispatch.proofs.Histories.{fresh-zero, zero-fresh, entry-ran, rested-by, ran-same, length-history, entry-of, history-set}
 use Rattle.dispatch.proofs.Moments.{horizon-small, release-within}
 
 -- the words of rows are words
@@ -69,7 +71,7 @@ module _ (rows : List ℕ) (k : ℕ) (playing starts finishes wakes cores : List
   in-rows : (j : ℕ) → j < length js → j < k
   in-rows j b = omega (arith, length-jobs rows k)
 
-  small : horizon js s < asleep
+  small : horizon js s ≤ lastMoment
   small = horizon-small rows k m playing given
 
   priority-small : (j : ℕ) → j < k → job js j .priority < 4294967296
@@ -93,8 +95,9 @@ module _ (rows : List ℕ) (k : ℕ) (playing starts finishes wakes cores : List
   ready-wakes v j b r =
       let z = fresh-zero (getD starts j 0) (finish j) (ap hasStarted (sym (entry-of starts finishes k j b)) ∙ r .fresh) in (
         z,
-        rw (fresh-word j b z) (wakes-by finishes (predecessors js j) (s .release j) v (r .released)
-            (λ w q. finished-by (getD starts w 0) (finish w) v (subst (Finished v) (entry-of starts finishes k w (omega (arith, earlier j b w q))) (r .served w q)))),
+        rw (fresh-word j b z) (wakes-by (restOf js j) finishes (predecessors js j) (s .release j) v (r .released)
+            (λ w q. rested-by (getD starts w 0) (finish w) v (restOf js j w)
+            (subst (Rested v (restOf js j w)) (entry-of starts finishes k w (omega (arith, earlier j b w q))) (r .served w q)))),
       )
 
   -- and a job that is awake by then is ready
@@ -103,14 +106,19 @@ module _ (rows : List ℕ) (k : ℕ) (playing starts finishes wakes cores : List
   wakes-ready v j b l g =
       let z = awake-fresh j b l in
       let e = fresh-word j b z in
-      let x = awake finishes (predecessors js j) (s .release j) (omega (arith, e)) in
+      let x = awake (restOf js j) finishes (predecessors js j) (s .release j) (omega (arith, e)) in
       record {
         fresh = ap hasStarted (entry-of starts finishes k j b ∙ zero-fresh (getD starts j 0) (finish j) z);
         released = omega (arith, x .from-then, e);
         served = λ w q.
             let y = x .have-started w q in
-            subst (Finished v) (sym (entry-of starts finishes k w (omega (arith, earlier j b w q)) ∙ entry-ran (getD starts w 0) (finish w) (y .0))) (omega (arith, y .1, e));
+            subst (Rested v (restOf js j w)) (sym (entry-of starts finishes k w (omega (arith, earlier j b w q)) ∙ entry-ran (getD starts w 0) (finish w) (y .0)))
+            (omega (arith, y .1, e));
       }
+
+  -- no rest is longer than the longest
+  rest-small : (j w : ℕ) → j < k → restOf js j w ≤ longestRest
+  rest-small j w b = omega (arith, rest-at-most js j w, given .setting .rests j (in-jobs j b))
 
   -- ---- no job is awake
 
@@ -135,8 +143,10 @@ module _ (rows : List ℕ) (k : ℕ) (playing starts finishes wakes cores : List
               asleep-all (x .0) (x .1),
               fresh-word (x .0) (x .1) z,
               small,
-              wakes-by finishes (predecessors js (x .0)) (s .release (x .0)) (horizon js s) (release-within rows k m playing given (x .0) (x .1))
-                  (λ w q. let l = earlier (x .0) (x .1) w q in (started-in w (x .3 w l), standing .finishes-within w (omega (arith, x .1)))),
+              wakes-by (restOf js (x .0)) finishes (predecessors js (x .0)) (s .release (x .0)) (horizon js s + longestRest)
+                  (omega (arith, release-within rows k m playing given (x .0) (x .1)))
+                  (λ w q. let l = earlier (x .0) (x .1) w q in
+                  (started-in w (x .3 w l), omega (arith, standing .finishes-within w (omega (arith, x .1)), rest-small (x .0) w (x .1)))),
             ))
 
     over-times : (j : ℕ) → j < k → (getD starts j 0 ≡ startTime js m s j) × (finish j ≡ finishTime js m s j)
@@ -212,6 +222,18 @@ module _ (rows : List ℕ) (k : ℕ) (playing starts finishes wakes cores : List
 
     -- ---- the words after it
 
+    finish-after : i < length finishes → (j : ℕ) → j < k → getD (set finishes i f) j 0 ≤ horizon js s
+    finish-after in-finishes j b = go (ℕ-discrete j i)
+      where
+        go : Dec (j ≡ i) → getD (set finishes i f) j 0 ≤ horizon js s
+        go (yes e) = rw (e, getD-set-same finishes i f 0 in-finishes) (starts-next .1)
+        go (no n) = rw (getD-set-other finishes i j f 0 n) (standing .finishes-within j b)
+
+    -- the same for the moments that were worked out
+    pub finishes-small : i < length finishes → (start execution : ℕ) → start ≡ max (getD cores c 0) (getD wakes i 0) → execution ≡ s .execution i → (j : ℕ) → j < k
+        → getD (set finishes i (start + execution)) j 0 ≤ lastMoment
+    finishes-small in-finishes start execution p q j b = rw (p, q) (omega (arith, finish-after in-finishes j b, small))
+
     module _ (kept : WordsKept k starts finishes wakes) (woken : List ℕ) (same-long : length woken ≡ length wakes)
         (wakes-are : EachWakes (wokenBy js s (set finishes i f) (set wakes i startedWord) i) k woken) where
       abbrev starts′ : List ℕ
@@ -242,8 +264,8 @@ module _ (rows : List ℕ) (k : ℕ) (playing starts finishes wakes cores : List
       waited : (j : ℕ) → j < k → finish j ≡ 0 → wake j ≡ asleep + i → member i (predecessors js j) ≡ true
       unfolding wakeOf
       waited j b z e =
-          waits-for finishes (predecessors js j) (s .release j) i (omega (arith, small, release-within rows k m playing given j b))
-          (λ w q. omega (arith, small, standing .finishes-within w (omega (arith, earlier j b w q)))) (sym (fresh-word j b z) ∙ e)
+          waits-for (restOf js j) finishes (predecessors js j) (s .release j) i (omega (arith, small, release-within rows k m playing given j b))
+          (λ w q. omega (arith, small, standing .finishes-within w (omega (arith, earlier j b w q)), rest-small j w b)) (sym (fresh-word j b z) ∙ e)
 
       -- the word of a job that has not started either changes with its predecessor or stays
       abbrev Either : ℕ → ℕ → Type 0
@@ -263,7 +285,7 @@ module _ (rows : List ℕ) (k : ℕ) (playing starts finishes wakes cores : List
           go (no n) =
               inr (
                 wakes-are j b ∙ woken-as-before js s finishes′ marked i j n ∙ other-word j b d,
-                sym (wake-same finishes i f in-finishes fresh (predecessors js j) (s .release j) (λ e. n (other-word j b d ∙ fresh-word j b z ∙ e))),
+                sym (wake-same (restOf js j) finishes i f in-finishes fresh (predecessors js j) (s .release j) (λ e. n (other-word j b d ∙ fresh-word j b z ∙ e))),
               )
 
       started-after : (j : ℕ) → j < k → getD marked j 0 ≡ startedWord → getD woken j 0 ≡ startedWord
@@ -297,7 +319,7 @@ module _ (rows : List ℕ) (k : ℕ) (playing starts finishes wakes cores : List
                 arith,
                 x .1,
                 takes-time,
-                awake finishes′ (predecessors js j) (s .release j) (omega (arith, x .1)) .have-started i (x .0) .1,
+                awake (restOf js j) finishes′ (predecessors js j) (s .release j) (omega (arith, x .1)) .have-started i (x .0) .1,
                 getD-set-same finishes i f 0 in-finishes,
               ))
               (λ x. omega (arith, x .0, none-sooner j b)) (fresh-after j b d z)
@@ -315,13 +337,6 @@ module _ (rows : List ℕ) (k : ℕ) (playing starts finishes wakes cores : List
           go (yes e) = rw (e, getD-set-same cores c f 0 in-cores) (omega (arith, takes-time), starts-next .1)
           go (no n) = rw (getD-set-other cores c d f 0 n) (is-first d b, standing .cores-within d b)
 
-      finish-after : (j : ℕ) → j < k → getD finishes′ j 0 ≤ horizon js s
-      finish-after j b = go (ℕ-discrete j i)
-        where
-          go : Dec (j ≡ i) → getD finishes′ j 0 ≤ horizon js s
-          go (yes e) = rw (e, getD-set-same finishes i f 0 in-finishes) (starts-next .1)
-          go (no n) = rw (getD-set-other finishes i j f 0 n) (standing .finishes-within j b)
-
       standing-after : Standing js s k u (set starts i u) (set finishes i f) woken (set cores c f)
       standing-after =
           record {
@@ -329,7 +344,7 @@ module _ (rows : List ℕ) (k : ℕ) (playing starts finishes wakes cores : List
             in-use = in-use-after;
             woken = woken-after;
             not-before = λ d j b l q. omega (arith, not-sooner j l q, core-after d (omega (arith, length-set cores c f)) .0);
-            finishes-within = finish-after;
+            finishes-within = finish-after in-finishes;
             cores-within = λ d b. core-after d (omega (arith, length-set cores c f)) .1;
           }
 
@@ -356,7 +371,7 @@ module _ (rows : List ℕ) (k : ℕ) (playing starts finishes wakes cores : List
           at-most j (yes e) = rw (e, getD-set-same finishes i f 0 in-finishes, ne-eqb f 0 (λ e. omega (arith, takes-time))) (omega arith)
           at-most j (no n) = rw (getD-set-other finishes i j f 0 n) (omega arith)
 
-    -- the same for the moments that were worked out
+    -- the turn, by the moments that were worked out
     pub turned : WordsKept k starts finishes wakes → (woken : List ℕ) → length woken ≡ length wakes → (start execution : ℕ) → start ≡ max (getD cores c 0) (getD wakes i 0)
         → execution ≡ s .execution i → EachWakes (wokenBy js s (set finishes i (start + execution)) (set wakes i startedWord) i) k woken
         → Turned rows k (length cores) playing finishes (set starts i start) (set finishes i (start + execution)) woken (set cores c (start + execution)) true

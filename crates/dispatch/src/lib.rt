@@ -1,5 +1,6 @@
 // The run of one playing, worked out from start to start. A job has the finish time 0 until it starts. Its wake word says from when it is ready: once it is
-// released and its predecessors have finished. While one of these has not started, and once the job itself has, the word is a mark above all times.
+// released, its predecessors have finished and its bell has rested. While a predecessor has not started, and once the job itself has, the word is a mark above
+// all times.
 mod choice;
 mod turns;
 mod wakes;

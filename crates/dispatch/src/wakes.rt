@@ -5,6 +5,7 @@ ghost use lib.ListN.{length};
 ghost use Rattle.jobs.specs.internal.JobRow.{jobsOfRows};
 ghost use Rattle.playing.specs.Playing.{scenarioIn};
 ghost use Rattle.dispatch.specs.internal.Wakes.{WorkedOn, wakeOf, wokenBy, EachWakes};
+use jobs::last_rest;
 use jobs::predecessor;
 use jobs::predecessor_count;
 use playing::scenario::release;
@@ -13,7 +14,8 @@ use words::larger;
 // All times are below. With the number of a predecessor added: the job waits for that one to start.
 pub const ASLEEP: u32 = 2147483648;
 
-// The wake word of job j: the latest of its release and the finish times of its predecessors; or the first of these that has not started.
+// The wake word of job j: the latest of its release and the finish times of its predecessors, with the rest for the one before it on its bell, which stands
+// last; or the first of these that has not started.
 fn wake(rows: &[u32], k: usize, playing: &[u8], finishes: &[u32], j: usize) -> u32
     requires { ⌜ (j < k) × WorkedOn (now rows) k (now playing) (now finishes) ⌝ }
     ensures { λ r. ⌜ r ≡ wakeOf (jobsOfRows (now (rows .entry)) k) (scenarioIn (now (playing .entry))) (now (finishes .entry)) j ⌝ }
@@ -30,7 +32,12 @@ fn wake(rows: &[u32], k: usize, playing: &[u8], finishes: &[u32], j: usize) -> u
         from = larger(from, finish);
         l += 1;
     }
-    from
+    let rest = last_rest(rows, k, j);
+    if rest == 0 {
+        return from;
+    }
+    let last = predecessor(rows, k, j, count - 1);
+    larger(from, finishes[last] + rest)
 }
 
 // The wake words of all jobs.

@@ -11,17 +11,17 @@ use lib.ListN.{getD, length, take, drop}
 use lib.Seq.{getD-take, getD-drop}
 use lib.Signed.{ltZ, leZ}
 use borrow.Author.Tests.{ltb-true, ltb-false, le-leb, lt-leb, eq-eqb, ne-eqb}
-use Rattle.model.specs.Limits.{latestTime}
+use Rattle.model.specs.Limits.{latestTime, longestRest}
 use Rattle.model.specs.Folds.{all, Limit, infinite, finite, smallest}
 use Rattle.model.specs.Jobs.{Job, job, before}
 use Rattle.model.specs.States.{State, first}
 use Rattle.model.specs.Edges.{orZero, candidate, certainlyReady, certainlyReadyBeside, earliestStart, workConservingBound, higherPriorityBound, latestStart, earliestFinish, latestFinish}
 use Rattle.model.specs.Eligibility.{minZ, lastBefore, latestStartZ, inOrder}
-use Rattle.model.specs.internal.Bounds.{TimedUpTo, Bounded}
+use Rattle.model.specs.internal.Bounds.{TimedUpTo, RestsUpTo, Bounded}
 use Rattle.model.proofs.Bounds.{bound-up-to}
 use Rattle.model.proofs.Eligibility.{before-suc, min-pos, eligible-in-order, latest-start-is}
 use Rattle.states.specs.internal.Slots.{possiblyAt, certainlyAt, stateOf}
-use Rattle.edges.specs.internal.Edges.{candidates, noLimit, limitWord, smallestIn, boundOver, startOf, edgeOf, edgeInOrder}
+use Rattle.edges.specs.internal.Edges.{latestStartTime, candidates, noLimit, limitWord, smallestIn, boundOver, startOf, edgeOf, edgeInOrder}
 use Rattle.edges.specs.declared.Edge.the-variants.{NotEligible, Starts}
 use Rattle.edges.proofs.Folds.{smallest-listed}
 
@@ -40,13 +40,13 @@ module _ (js : List Job) (σ : State) (k : ℕ) (every-job : k ≡ length js) wh
       (smallest-listed (candidate js σ) (λ j. before js j i) (λ j. candidate js σ j && before js j i) (certainlyReadyBeside js σ i) (λ j. refl) k)
 
   -- the work-conserving bound, from the first upper availability and the first moment at which a candidate is certainly ready
-  pub bound-is : TimedUpTo latestTime js → Bounded js latestTime σ → (free ready : ℕ) → free ≡ first (σ .certainlyFree)
+  pub bound-is : TimedUpTo latestTime js → RestsUpTo longestRest js → Bounded js latestTime σ → (free ready : ℕ) → free ≡ first (σ .certainlyFree)
       → ready ≡ limitWord (smallestIn all (certainlyReady js σ) (candidates js σ k)) → cond (eqb ready noLimit) free (max free ready) ≡ workConservingBound js σ
   unfolding workConservingBound
-  bound-is timed g free ready e r =
-      go (smallest (candidate js σ) (certainlyReady js σ) (length js)) (r ∙ ap limitWord first-listed) (bound-up-to js latestTime timed σ g)
+  bound-is timed rests g free ready e r =
+      go (smallest (candidate js σ) (certainlyReady js σ) (length js)) (r ∙ ap limitWord first-listed) (bound-up-to js latestTime longestRest timed rests σ g)
     where
-      go : (x : Limit) → ready ≡ limitWord x → max (first (σ .certainlyFree)) (orZero x) ≤ latestTime
+      go : (x : Limit) → ready ≡ limitWord x → max (first (σ .certainlyFree)) (orZero x) ≤ latestStartTime
           → cond (eqb ready noLimit) free (max free ready) ≡ max (first (σ .certainlyFree)) (orZero x)
       go infinite q h = rw (eq-eqb ready noLimit q) (omega arith)
       go (finite x) q h = rw (ne-eqb ready noLimit (λ (z : ready ≡ noLimit). omega arith)) (omega arith)

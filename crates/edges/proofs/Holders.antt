@@ -6,12 +6,12 @@ use mathlib.Core.List.{List, [], _∷_, _++_, map, foldl-append}
 use native.Mathlib.Omega.{arith}
 use lib.Dec.{ltb}
 use lib.ListN.{getD, length, set, take, length-map}
-use Rattle.model.specs.Limits.{mostJobs, latestTime}
+use Rattle.model.specs.Limits.{mostJobs, latestTime, longestRest}
 use Rattle.model.specs.Folds.{ind, Limit, infinite}
 use Rattle.model.specs.Jobs.{Job, job, before}
 use Rattle.model.specs.States.{State}
 use Rattle.model.specs.Edges.{certainlyReady, certainlyReadyBeside}
-use Rattle.model.specs.internal.Bounds.{TimedUpTo, Bounded}
+use Rattle.model.specs.internal.Bounds.{TimedUpTo, RestsUpTo, Bounded}
 use Rattle.model.proofs.Bounds.{certainly-ready-up-to, beside-up-to}
 use Rattle.jobs.specs.internal.Order.{precedence}
 use Rattle.jobs.proofs.Order.{job-at, before-is}
@@ -39,7 +39,7 @@ module _ (js : List Job) (σ : State) (k : ℕ) (few : k ≤ mostJobs) (ws : Lis
     word-is = ap (λ (l : List ℕ). getD l t 0) (h .words) ∙ map-at (holderWord js σ) (h .jobs) t within
 
     -- the word says where the job stands,
-    place-in : getD ws t 0 / moments ≡ precedence js (getD (h .jobs) t 0)
+    pub place-in : getD ws t 0 / moments ≡ precedence js (getD (h .jobs) t 0)
     place-in = omega (arith, word-is, h .inside t within .1)
 
     -- from when on it is certainly ready,
@@ -77,7 +77,7 @@ map-behind : (f : ℕ → ℕ) (l : List ℕ) (x : ℕ) → map f (l ++ (x ∷ [
 map-behind f [] x = refl
 map-behind f (y ∷ l) x = ap (λ (r : List ℕ). f y ∷ r) (map-behind f l x)
 
-module _ (js : List Job) (timed : TimedUpTo latestTime js) (σ : State) (g : Bounded js latestTime σ) (k : ℕ) (every-job : k ≡ length js) where
+module _ (js : List Job) (timed : TimedUpTo latestTime js) (rests : RestsUpTo longestRest js) (σ : State) (g : Bounded js latestTime σ) (k : ℕ) (every-job : k ≡ length js) where
   -- One candidate more, the next of the list: its word is written behind the others, and stays if the job is released before the new moment. One that is
   -- released later holds none back before it.
   pub holding-next : (past less : ℕ) (list : List ℕ) (t : ℕ) → t < length list → getD list t 0 < k → less ≤ past → (ws : List ℕ) (n w : ℕ) → n < length ws
@@ -94,7 +94,7 @@ module _ (js : List Job) (timed : TimedUpTo latestTime js) (σ : State) (g : Bou
 
       -- with one job more, each bound is lowered by that job's
       one-more : (i : ℕ) (r : Limit) → limitWord (lower (λ y. before js y i) (certainlyReadyBeside js σ i) r j) ≡ cond (before js j i) (min (limitWord r) (certainlyReadyBeside js σ i j)) (limitWord r)
-      one-more i r = lower-word (λ y. before js y i) (certainlyReadyBeside js σ i) r j (omega (arith, beside-up-to js latestTime timed σ g i j (omega (arith, inside, every-job))))
+      one-more i r = lower-word (λ y. before js y i) (certainlyReadyBeside js σ i) r j (omega (arith, beside-up-to js latestTime longestRest timed rests σ g i j (omega (arith, inside, every-job))))
 
       longer : (i : ℕ) → limitWord (boundOver js σ i (take (t + 1) list)) ≡ cond (before js j i) (min (limitWord (boundOver js σ i (take t list))) (certainlyReadyBeside js σ i j)) (limitWord (boundOver js σ i (take t list)))
       longer i = ap limitWord (fold-turn (lower (λ y. before js y i) (certainlyReadyBeside js σ i)) infinite list t h) ∙ one-more i (boundOver js σ i (take t list))
@@ -121,7 +121,7 @@ module _ (js : List Job) (timed : TimedUpTo latestTime js) (σ : State) (g : Bou
                   words = rw (x .holders .words, e, map-behind);
                   inside =
                       each-snoc (λ (y : ℕ). (y < k) × (certainlyReady js σ y < moments)) l j (x .holders .inside)
-                      (inside, omega (arith, certainly-ready-up-to js latestTime timed σ g j (omega (arith, inside, every-job))));
+                      (inside, omega (arith, certainly-ready-up-to js latestTime longestRest timed rests σ g j (omega (arith, inside, every-job))));
                 };
             enough = λ i. ap (min less) (behind i) ∙ kept i (before js j i) ∙ ap (min less) (sym (longer i));
           }

@@ -1,2 +1,3 @@
--- Worked examples of words.
+-- Worked examples: words of jobs that may hold others back, and rests.
 pub mod Holders
+pub mod Rests

@@ -7,19 +7,19 @@ ghost use mathlib.Core.List.{List};
 ghost use lib.Dec.{eqb};
 ghost use lib.IntN.{pos, _-ℤ_};
 ghost use lib.ListN.{length, take};
-ghost use Rattle.model.specs.Limits.{mostJobs, latestTime};
+ghost use Rattle.model.specs.Limits.{mostJobs};
 ghost use Rattle.model.specs.Folds.{every, member};
 ghost use Rattle.model.specs.Jobs.{Job, predecessors};
-ghost use Rattle.model.specs.States.{latest, finishOf};
+ghost use Rattle.model.specs.States.{earliest, latest, finishOf};
 ghost use Rattle.model.specs.Edges.{candidate, possiblyReady, certainlyReady, earliestStart, workConservingBound, certainlyReadyBeside};
 ghost use Rattle.model.specs.Eligibility.{minZ};
 ghost use Rattle.model.specs.Exploration.{stateWords};
-ghost use Rattle.model.specs.internal.Bounds.{Bounded};
 ghost use Rattle.jobs.specs.internal.JobRow.{jobsOfRows, Rows};
 ghost use Rattle.states.specs.internal.Slots.{inSet, stateOf};
-ghost use Rattle.edges.specs.internal.Edges.{Readable, PredecessorSet, PredecessorSets, candidates, Prepared, noLimit, limitWord, boundOver, Holders, Holding, edgeOf, edgeInOrder};
+ghost use Rattle.edges.specs.internal.Edges.{Readable, PredecessorSet, PredecessorSets, candidates, Prepared, restedAfter, noLimit, limitWord, boundOver, Holders, Holding, edgeOf, edgeInOrder};
 use jobs::earliest_release;
 use jobs::is_predecessor;
+use jobs::last_rest;
 use jobs::latest_release;
 use jobs::least_execution;
 use jobs::most_execution;
@@ -110,7 +110,34 @@ pub fn list_candidates(sets: &[u64], k: usize, s: &[u32], m: usize, list: &mut [
     n
 }
 
-// (2) Rmin, from when on job i is possibly ready.
+// From when on the bell of job i has possibly rested: the earliest finish of the job before on it, the last of the predecessors, and the rest; 0 where it does
+// not have to.
+fn possibly_rested(rows: &[u32], k: usize, s: &[u32], m: usize, i: usize) -> u32
+    requires { ⌜ (i < k) × Readable (now rows) k (now s) m ⌝ }
+    ensures { λ r. ⌜ r ≡ restedAfter (jobsOfRows (now (rows .entry)) k) i (λ w. earliest (finishOf (stateOf m k (now (s .entry))) w)) ⌝ }
+{
+    let rest = last_rest(rows, k, i);
+    if rest == 0 {
+        return 0;
+    }
+    let last = predecessor_count(rows, k, i) - 1;
+    earliest_finish(s, m, k, predecessor(rows, k, i, last)) + rest
+}
+
+// From when on it has certainly rested: the same by the latest finish.
+fn certainly_rested(rows: &[u32], k: usize, s: &[u32], m: usize, i: usize) -> u32
+    requires { ⌜ (i < k) × Readable (now rows) k (now s) m ⌝ }
+    ensures { λ r. ⌜ r ≡ restedAfter (jobsOfRows (now (rows .entry)) k) i (λ w. latest (finishOf (stateOf m k (now (s .entry))) w)) ⌝ }
+{
+    let rest = last_rest(rows, k, i);
+    if rest == 0 {
+        return 0;
+    }
+    let last = predecessor_count(rows, k, i) - 1;
+    latest_finish(s, m, k, predecessor(rows, k, i, last)) + rest
+}
+
+// (2) Rmin, from when on job i is possibly ready. Every wait counts as without a rest; then the last, if it has one, with it.
 fn possibly_ready(rows: &[u32], k: usize, s: &[u32], m: usize, i: usize) -> u32
     requires { ⌜ (i < k) × Readable (now rows) k (now s) m ⌝ }
     ensures { λ r. ⌜ r ≡ possiblyReady (jobsOfRows (now (rows .entry)) k) (stateOf m k (now (s .entry))) i ⌝ }
@@ -122,10 +149,10 @@ fn possibly_ready(rows: &[u32], k: usize, s: &[u32], m: usize, i: usize) -> u32
         ready = larger(ready, earliest_finish(s, m, k, predecessor(rows, k, i, j)));
         j += 1;
     }
-    ready
+    larger(ready, possibly_rested(rows, k, s, m, i))
 }
 
-// (3) Rmax, from when on job i is certainly ready.
+// (3) Rmax, from when on job i is certainly ready; the waits count likewise.
 fn certainly_ready(rows: &[u32], k: usize, s: &[u32], m: usize, i: usize) -> u32
     requires { ⌜ (i < k) × Readable (now rows) k (now s) m ⌝ }
     ensures { λ r. ⌜ r ≡ certainlyReady (jobsOfRows (now (rows .entry)) k) (stateOf m k (now (s .entry))) i ⌝ }
@@ -137,7 +164,7 @@ fn certainly_ready(rows: &[u32], k: usize, s: &[u32], m: usize, i: usize) -> u32
         ready = larger(ready, latest_finish(s, m, k, predecessor(rows, k, i, j)));
         j += 1;
     }
-    ready
+    larger(ready, certainly_rested(rows, k, s, m, i))
 }
 
 // The latest finish of job w, if it is no predecessor of job i; those have finished once i is ready.
@@ -152,9 +179,10 @@ fn latest_finish_beside(rows: &[u32], k: usize, s: &[u32], m: usize, i: usize, w
     latest_finish(s, m, k, w)
 }
 
-// (6) From when on job j is certainly ready where job i is ready: the larger of rb and the F of those waits of j that are not waits of i.
+// (6) From when on job j is certainly ready where another job i is ready: the larger of rb and the F of those waits of j that are not waits of i. The last wait
+// counts with its rest even if i has it too: no two jobs wait for one rest.
 fn certainly_ready_beside(rows: &[u32], k: usize, s: &[u32], m: usize, i: usize, j: usize) -> u32
-    requires { ⌜ (i < k) × (j < k) × Readable (now rows) k (now s) m ⌝ }
+    requires { ⌜ (i < k) × (j < k) × Readable (now rows) k (now s) m × (i ≡ j → ⊥) ⌝ }
     ensures { λ r. ⌜ r ≡ certainlyReadyBeside (jobsOfRows (now (rows .entry)) k) (stateOf m k (now (s .entry))) i j ⌝ }
 {
     let n = predecessor_count(rows, k, j);
@@ -167,7 +195,7 @@ fn certainly_ready_beside(rows: &[u32], k: usize, s: &[u32], m: usize, i: usize,
         );
         h += 1;
     }
-    ready
+    larger(ready, certainly_rested(rows, k, s, m, j))
 }
 
 // (7) twc: the larger of when a core is certainly free and of when the first candidate is certainly ready, if there is any.
@@ -227,7 +255,7 @@ fn certainly_ready_for(
     ready: u32,
 ) -> u32
     requires { ⌜ (i < k) × (j < k) × Readable (now rows) k (now s) m × (k ≤ length (now sets)) × PredecessorSets (jobsOfRows (now rows) k) k (now sets)
-        × (ready ≡ certainlyReady (jobsOfRows (now rows) k) (stateOf m k (now s)) j) ⌝ }
+        × (ready ≡ certainlyReady (jobsOfRows (now rows) k) (stateOf m k (now s)) j) × (i ≡ j → ⊥) ⌝ }
     ensures { λ r. ⌜ r ≡ certainlyReadyBeside (jobsOfRows (now (rows .entry)) k) (stateOf m k (now (s .entry))) i j ⌝ }
 {
     if sets[i] & sets[j] == 0 {
@@ -295,8 +323,7 @@ pub fn edge_of(
     bound: u32,
     i: usize,
 ) -> Edge
-    requires { ⌜ (i < k) × Readable (now rows) k (now s) m × Bounded (jobsOfRows (now rows) k) latestTime (stateOf m k (now s))
-        × (k ≤ length (now sets)) × PredecessorSets (jobsOfRows (now rows) k) k (now sets) ⌝ }
+    requires { ⌜ (i < k) × Readable (now rows) k (now s) m × (k ≤ length (now sets)) × PredecessorSets (jobsOfRows (now rows) k) k (now sets) ⌝ }
     requires { ⌜ (candidate (jobsOfRows (now rows) k) (stateOf m k (now s)) i ≡ true)
         × (bound ≡ workConservingBound (jobsOfRows (now rows) k) (stateOf m k (now s)))
         × Holding (jobsOfRows (now rows) k) (stateOf m k (now s)) k (suc bound) (candidates (jobsOfRows (now rows) k) (stateOf m k (now s)) k)

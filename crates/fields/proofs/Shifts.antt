@@ -1,12 +1,11 @@
 -- The shift of a file and of a phrase by the width that its version gives it, which is 0 or 1. Assumes nothing.
-use Prim.Native.Nat.{ℕ, zero, suc, _^_, _≤_}
+use Prim.Native.Nat.{ℕ, zero, suc, _≤_}
 use mathlib.Core.Path.{_≡_, refl, sym, ap, _∙_}
-use mathlib.Core.Bool.{Bool, true, false, _&&_}
+use mathlib.Core.Bool.{_&&_}
 use mathlib.Core.List.{List}
 use native.Mathlib.Omega.{arith}
-use lib.Dec.{ltb, eqb}
-use borrow.Author.Tests.{lt-ltb, le-ltb, ne-eqb}
-use Rattle.format.specs.Bytes.{number}
+use lib.Dec.{eqb}
+use Rattle.format.specs.Bytes.{number, fits}
 use Rattle.format.specs.Layout.{shiftAt}
 use Rattle.format.specs.Rules.{isTransposition, isShift}
 use Rattle.format.specs.Reading.{shiftIn}
@@ -14,6 +13,7 @@ use Rattle.format.specs.internal.Sized.{Sized}
 use Rattle.format.proofs.Ranges.{transposition-small}
 use Rattle.fields.specs.declared.layout.Layout.{Layout as Row}
 use Rattle.fields.specs.internal.Layouts.{layoutOf}
+use Rattle.fields.proofs.Widths.{only-zero, all-fit}
 
 module _ (l : Row) where
   module _ (none : l .shift ≡ 0) where
@@ -25,15 +25,7 @@ module _ (l : Row) where
     -- Without a shift, 0 alone is one.
     pub none-is : (t : ℕ) → eqb t 0 ≡ isShift (layoutOf l) t
     unfolding isShift
-    none-is t = only t ∙ ap (λ (w : ℕ). isTransposition t && ltb t (256 ^ w)) (sym none)
-      where
-        never : (b : Bool) → false ≡ (b && false)
-        never true = refl
-        never false = refl
-
-        only : (t : ℕ) → eqb t 0 ≡ (isTransposition t && ltb t (256 ^ 0))
-        only zero = refl
-        only (suc n) = ne-eqb (suc n) 0 (λ e. omega arith) ∙ never (isTransposition (suc n)) ∙ ap (λ (b : Bool). isTransposition (suc n) && b) (sym (le-ltb (suc n) 1 (omega arith)))
+    none-is t = only-zero isTransposition refl t ∙ ap (λ (w : ℕ). isTransposition t && fits w t) (sym none)
 
   module _ (z : Sized (layoutOf l)) (some : l .shift ≡ 0 → ⊥) where
     -- Its width is 1.
@@ -51,8 +43,4 @@ module _ (l : Row) where
     -- With a shift, every transposition is one.
     pub some-is : (t : ℕ) → isTransposition t ≡ isShift (layoutOf l) t
     unfolding isShift
-    some-is t = both (isTransposition t) refl ∙ ap (λ (w : ℕ). isTransposition t && ltb t (256 ^ w)) one
-      where
-        both : (b : Bool) → isTransposition t ≡ b → isTransposition t ≡ (isTransposition t && ltb t (256 ^ 1))
-        both true e = simp (e, lt-ltb t 256 (transposition-small t e))
-        both false e = simp e
+    some-is t = all-fit 1 t (isTransposition t) (transposition-small t) ∙ ap (λ (w : ℕ). isTransposition t && fits w t) one

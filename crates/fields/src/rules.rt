@@ -3,13 +3,14 @@ ghost use mathlib.Core.Path.{_≡_};
 ghost use Prim.Native.Nat.{_<_};
 ghost use Rattle.format.specs.Bytes.{within};
 ghost use Rattle.format.specs.Phrase.{transposed};
-ghost use Rattle.format.specs.Rules.{isTransposition, isShift, isExecutionRange, bellInRange, areTimes};
+ghost use Rattle.format.specs.Rules.{isTransposition, isShift, isExecutionRange, isRest, bellInRange, areTimes};
 ghost use Rattle.format.specs.internal.Sized.{Sized};
 ghost use Rattle.fields.specs.internal.BellWith.{bellWith};
 ghost use Rattle.fields.specs.internal.Layouts.{layoutOf};
 use crate::layout::Layout;
 use model::limits::LATEST_TIME;
 use model::limits::LONGEST_EXECUTION;
+use model::limits::LONGEST_REST;
 
 const LOWEST_KEY: u32 = 12;
 
@@ -53,6 +54,17 @@ fn is_execution_range(least: u32, most: u32) -> bool
     most <= LONGEST_EXECUTION
 }
 
+// The rest of a bell: 0 where the version has none.
+fn is_rest(l: Layout, rest: u32) -> bool
+    requires { ⌜ Sized (layoutOf l) ⌝ }
+    ensures { λ r. ⌜ r ≡ isRest (layoutOf l) rest ⌝ }
+{
+    if l.rest == 0 {
+        return rest == 0;
+    }
+    rest <= LONGEST_REST
+}
+
 // A key moved by a transposition or a shift, which is a signed byte; a sum below zero is no key, and 0 here.
 pub fn transposed(written: u32, transposition: u32) -> u32
     requires { ⌜ (written < 256) × (transposition < 256) ⌝ }
@@ -68,8 +80,17 @@ pub fn transposed(written: u32, transposition: u32) -> u32
 }
 
 // Whether every field of a bell is in its range.
-pub fn is_bell(written: u32, transposition: u32, least: u32, most: u32, priority: u32) -> bool
-    ensures { λ r. ⌜ r ≡ bellInRange (bellWith written transposition least most priority) ⌝ }
+pub fn is_bell(
+    l: Layout,
+    written: u32,
+    transposition: u32,
+    least: u32,
+    most: u32,
+    rest: u32,
+    priority: u32,
+) -> bool
+    requires { ⌜ Sized (layoutOf l) ⌝ }
+    ensures { λ r. ⌜ r ≡ bellInRange (layoutOf l) (bellWith written transposition least most rest priority) ⌝ }
 {
     if !is_within(LOWEST_KEY, HIGHEST_KEY, written) {
         return false;
@@ -82,6 +103,9 @@ pub fn is_bell(written: u32, transposition: u32, least: u32, most: u32, priority
         return false;
     }
     if !is_execution_range(least, most) {
+        return false;
+    }
+    if !is_rest(l, rest) {
         return false;
     }
     priority < 256

@@ -19,18 +19,18 @@ use Rattle.format.proofs.Given.{bell-passed, note-passed}
 module _ (l : Layout) where
   -- Bells that pass are valid, and stand after those before.
   pub bells-passed : (rest : List Bell) (at : ℕ) (before bells : List Bell) → bellsRules l rest at before ≡ ok bells
-      → Each ValidBell before rest × (before ++ rest ≡ bells)
+      → Each (ValidBell l) before rest × (before ++ rest ≡ bells)
   unfolding bellsRules Each
   bells-passed [] at before bells e = (tt, append-nil before ∙ cc e)
   bells-passed (b ∷ bs) at before bells e =
-      let step = bound (bellRules before at b) e in
-      let this = bell-passed before at b (step .0) (step .1) in
+      let step = bound (bellRules l before at b) e in
+      let this = bell-passed l before at b (step .0) (step .1) in
       let next : bellsRules l bs (at + bellBytes l) (before ++ b ∷ []) ≡ ok bells =
       ap (λ (c : Bell). bellsRules l bs (at + bellBytes l) (before ++ c ∷ [])) (this .2) ∙ step .2 in
       let those = bells-passed bs (at + bellBytes l) (before ++ b ∷ []) bells next in
       ((record { inRange = this .0; alone = is-none _ (this .1) }, those .0), sym (append-assoc before (b ∷ []) bs) ∙ those .1)
 
-  bells-pass : (rest : List Bell) (at : ℕ) (before : List Bell) → Each ValidBell before rest → bellsRules l rest at before ≡ ok (before ++ rest)
+  bells-pass : (rest : List Bell) (at : ℕ) (before : List Bell) → Each (ValidBell l) before rest → bellsRules l rest at before ≡ ok (before ++ rest)
   unfolding bellsRules bellRules Each
   bells-pass [] at before v = ap ok (sym (append-nil before))
   bells-pass (b ∷ bs) at before v =

@@ -1,5 +1,6 @@
--- The reading as it was before version 2: but for the order of a note's rules, a file of any version but 2 has the answer that it had; its jobs and its keys are the same. Assumes nothing.
-use Prim.Native.Nat.{ℕ, zero, suc, _+_, _-_, _*_, _<_}
+-- The reading as it was before version 2: but for the order of a note's rules, a file of any version but 2 and 3 has the answer that it had; its jobs and its keys are the same.
+-- Assumes nothing.
+use Prim.Native.Nat.{ℕ, zero, suc, _+_, _-_, _*_}
 use mathlib.Core.Path.{_≡_, refl, sym, ap, _∙_}
 use mathlib.Core.Bool.{Bool, true, false, _&&_, _||_}
 use mathlib.Core.List.{List, [], _∷_, _++_, map}
@@ -7,7 +8,7 @@ use native.Mathlib.Nat.{add-zero}
 use native.Mathlib.Omega.{arith}
 use lib.Dec.{leb, ltb, eqb}
 use lib.ListN.{length, getD, drop}
-use borrow.Author.Tests.{leb-true, leb-false, ltb-true, le-leb, lt-leb}
+use borrow.Author.Tests.{ltb-true, le-leb}
 use Rattle.model.specs.Refusals.{wrongVersion, wrongCount, wrongEnd, wrongCores, wrongBellCount, tooManyNotes, wrongNoteLength, silentKey, wrongTimes, wrongListed}
 use Rattle.model.specs.Jobs.{Job}
 use Rattle.format.specs.Bytes.{number, within}
@@ -15,14 +16,15 @@ use Rattle.format.specs.Layout.{Layout, first, versions, isVersion, layo
 use Rattle.format.specs.Outcome.{Outcome, ok, refused, _>>=_, _>>_, require}
 use Rattle.format.specs.Phrase.{Bell, Note, Phrase, transposed, findSounding, isSome}
 use Rattle.format.specs.Rules.{areTimes, rises, isShift}
-use Rattle.format.specs.Reading.{noteIn, bellsFrom, bellsIn, reading}
+use Rattle.format.specs.Reading.{noteIn, bellsIn, reading}
 use Rattle.format.specs.Jobs.{noBell, note, shiftedKey, orFirst, jobOn, jobOf, jobsOf}
 use Rattle.format.proofs.Passed.{required, bound, same-then, same-require, passed}
+use Rattle.format.proofs.Unrested.{formerFrom, bells-as-formerly, not-the-next, two-versions, beyond}
 use Rattle.format.proofs.AnyRules.{noteRecordWith, notesFromWith, notesInWith, readingByWith, readingWith}
 use Rattle.format.proofs.Retold.{inFile, retold}
 use Rattle.format.proofs.Order.{keyFirst, readingBefore, timely, strikes, from-before, from-now}
 
--- ---- the reading as it was, sentence by sentence; the records of bells and the fields of notes are those of version 1 now
+-- ---- the reading as it was, sentence by sentence; the records of bells are those before version 3, and the fields of notes those of version 1 now
 
 -- a note's bell is found by the key as written
 noteRulesBefore : List Bell → ℕ → ℕ → Note → Outcome Note
@@ -52,7 +54,7 @@ bellsBefore : List ℕ → Outcome (List Bell)
 bellsBefore s = do
   require (ltb 6 (length s)) wrongEnd 6
   require (within 1 96 (number 1 6 s)) wrongBellCount 6
-  bellsFrom first s (number 1 6 s) 7 []
+  formerFrom s (number 1 6 s) 7 []
 
 notesBefore : List ℕ → List Bell → ℕ → Outcome (List Note)
 notesBefore s bells at = do
@@ -104,7 +106,7 @@ notes-in s bells at = rw notes-from refl
 
 bells-in : (s : List ℕ) → bellsIn first s ≡ bellsBefore s
 unfolding bellsIn bellsBefore
-bells-in s = refl
+bells-in s = rw (bells-as-formerly first refl) refl
 
 -- ---- the file
 
@@ -121,62 +123,56 @@ parts s =
     go true q h = h refl
     go false q h = refl
 
-one-version : (v : ℕ) → (v ≡ 2 → ⊥) → isVersion v ≡ within 1 1 v
-unfolding isVersion within
-one-version v other = ap (λ (b : Bool). leb 1 v && b) (go (leb v 1) refl (leb v 2) refl)
-  where
-    go : (b : Bool) → leb v 1 ≡ b → (c : Bool) → leb v 2 ≡ c → leb v 2 ≡ leb v 1
-    go true q c r = le-leb v 2 (omega (arith, leb-true v 1 q)) ∙ sym q
-    go false q true r = absurd (other (omega (arith, leb-false v 1 q, leb-true v 2 r)))
-    go false q false r = r ∙ sym q
+one-version : (v : ℕ) → (v ≡ 2 → ⊥) → (v ≡ 3 → ⊥) → isVersion v ≡ within 1 1 v
+unfolding within
+one-version v two three = two-versions v three ∙ ap (λ (b : Bool). leb 1 v && b) (not-the-next 1 v two)
 
-one-layout : (v : ℕ) → (v ≡ 2 → ⊥) → layout v ≡ first
+one-layout : (v : ℕ) → (v ≡ 2 → ⊥) → (v ≡ 3 → ⊥) → layout v ≡ first
 unfolding layout
-one-layout v other = go (v - 1) refl
+one-layout v two three = go (v - 1) refl
   where
     go : (k : ℕ) → k ≡ v - 1 → getD versions k first ≡ first
     go zero e = refl
-    go (suc zero) e = absurd (other (omega arith))
-    go (suc (suc k)) e = refl
+    go (suc zero) e = absurd (two (omega arith))
+    go (suc (suc zero)) e = absurd (three (omega arith))
+    go (suc (suc (suc k))) e = refl
 
 -- in the order that a note's rules had then
-in-the-old-order : (s : List ℕ) → (number 1 0 s ≡ 2 → ⊥) → readingBefore s ≡ before s
+in-the-old-order : (s : List ℕ) → (number 1 0 s ≡ 2 → ⊥) → (number 1 0 s ≡ 3 → ⊥) → readingBefore s ≡ before s
 unfolding readingWith before
-in-the-old-order s other =
-    same-require _ _ wrongVersion 0 _ _ (ap (λ (b : Bool). leb (length s) 0 || b) (one-version (number 1 0 s) other))
-    (ap (λ (l : Layout). readingByWith keyFirst l s) (one-layout (number 1 0 s) other) ∙ parts s)
+in-the-old-order s two three =
+    same-require _ _ wrongVersion 0 _ _ (ap (λ (b : Bool). leb (length s) 0 || b) (one-version (number 1 0 s) two three))
+    (ap (λ (l : Layout). readingByWith keyFirst l s) (one-layout (number 1 0 s) two three) ∙ parts s)
 
--- A file of any version but 2 has the answer that it had, but that 10 for a note with wrong times is 11: one of version 1, the empty one, and one of a version that there is not.
-pub others-as-before : (s : List ℕ) → (number 1 0 s ≡ 2 → ⊥) → reading s ≡ retold silentKey wrongTimes (inFile timely s) (before s)
-others-as-before s other = from-before s ∙ ap (retold silentKey wrongTimes (inFile timely s)) (in-the-old-order s other)
+-- A file of any version but 2 and 3 has the answer that it had, but that 10 for a note with wrong times is 11: one of version 1, the empty one, and one of a version that there is not.
+pub others-as-before : (s : List ℕ) → (number 1 0 s ≡ 2 → ⊥) → (number 1 0 s ≡ 3 → ⊥) → reading s ≡ retold silentKey wrongTimes (inFile timely s) (before s)
+others-as-before s two three = from-before s ∙ ap (retold silentKey wrongTimes (inFile timely s)) (in-the-old-order s two three)
 
 -- So has a file of version 1.
 pub as-before : (s : List ℕ) → number 1 0 s ≡ 1 → reading s ≡ retold silentKey wrongTimes (inFile timely s) (before s)
-as-before s one = others-as-before s (λ two. omega arith)
+as-before s one = others-as-before s (λ two. omega arith) (λ three. omega arith)
 
 -- a phrase that is read now was read then
-was-read : (s : List ℕ) (x : Phrase) → (number 1 0 s ≡ 2 → ⊥) → reading s ≡ ok x → before s ≡ ok x
-was-read s x other e = sym (in-the-old-order s other) ∙ from-now s ∙ ap (retold wrongTimes silentKey (inFile strikes s)) e
+was-read : (s : List ℕ) (x : Phrase) → (number 1 0 s ≡ 2 → ⊥) → (number 1 0 s ≡ 3 → ⊥) → reading s ≡ ok x → before s ≡ ok x
+was-read s x two three e = sym (in-the-old-order s two three) ∙ from-now s ∙ ap (retold wrongTimes silentKey (inFile strikes s)) e
 
-filled : (s : List ℕ) → number 1 0 s ≡ 2 → 0 < length s
-unfolding number
-filled [] e = absurd (omega arith)
-filled (b ∷ s) e = omega arith
-
--- A file of version 2 was refused; so but for the order of a note's rules no other file has another answer now.
+-- A file of version 2 was refused.
 pub second-before : (s : List ℕ) → number 1 0 s ≡ 2 → before s ≡ refused wrongVersion 0
-unfolding before within
-second-before s e =
-    let there : leb (length s) 0 ≡ false = lt-leb (length s) 0 (filled s e) in
-    λ i. _>>_ (require (there i || within 1 1 (e i)) wrongVersion 0) (partsBefore s)
+unfolding before
+second-before s e = beyond 1 s (partsBefore s) (omega arith)
+
+-- So was one of version 3; so but for the order of a note's rules no other file has another answer now.
+pub third-before : (s : List ℕ) → number 1 0 s ≡ 3 → before s ≡ refused wrongVersion 0
+unfolding before
+third-before s e = beyond 1 s (partsBefore s) (omega arith)
 
 -- ---- the phrase, its jobs and its keys
 
--- A file of any version but 2 holds a phrase whose shift is 0.
-pub unshifted : (s : List ℕ) (x : Phrase) → (number 1 0 s ≡ 2 → ⊥) → reading s ≡ ok x → x .shift ≡ 0
+-- A file of any version but 2 and 3 holds a phrase whose shift is 0.
+pub unshifted : (s : List ℕ) (x : Phrase) → (number 1 0 s ≡ 2 → ⊥) → (number 1 0 s ≡ 3 → ⊥) → reading s ≡ ok x → x .shift ≡ 0
 unfolding before partsBefore
-unshifted s x other e =
-    let version = required (leb (length s) 0 || within 1 1 (number 1 0 s)) wrongVersion 0 (was-read s x other e) in
+unshifted s x two three e =
+    let version = required (leb (length s) 0 || within 1 1 (number 1 0 s)) wrongVersion 0 (was-read s x two three e) in
     let count = required (leb 5 (length s) && eqb (number 4 1 s) (length s - 5)) wrongCount 0 (version .1) in
     let there = required (ltb 5 (length s)) wrongEnd 5 (count .1) in
     let cores = required (within 1 8 (number 1 5 s)) wrongCores 5 (there .1) in

@@ -1,4 +1,5 @@
--- The records of version 1 as bytes at their places (numbers by their bytes: Digits); Versions says that those of version 2 are the same. Assumes nothing.
+-- The records of bells, and those of notes of version 1, as bytes at their places (numbers by their bytes: Digits); Versions says that the other versions have the same notes.
+-- Assumes nothing.
 use Prim.Native.Nat.{ℕ, zero, suc, _+_, _-_, _*_, _/_, _<_}
 use mathlib.Core.Path.{_≡_, refl, sym, ap, _∙_}
 use mathlib.Core.Bool.{Bool, true, false, _&&_}
@@ -9,7 +10,7 @@ use lib.Dec.{leb, eqb}
 use lib.ListN.{length, getD, replicate, length-replicate}
 use borrow.Author.Tests.{leb-true, leb-false, le-leb, lt-leb, eq-eqb, ne-eqb}
 use Rattle.format.specs.Bytes.{byteAt, number, within, fieldsIn}
-use Rattle.format.specs.Layout.{first, noteBytes, mostListed, noteLength, listedCount, isNoteLength}
+use Rattle.format.specs.Layout.{Layout, first, noteBytes, mostListed, noteLength, listedCount, isNoteLength}
 use Rattle.format.specs.Reading.{bellIn, listedBy, noteIn}
 use Rattle.format.proofs.Digits.{number-one}
 use Rattle.format.proofs.Fields.{fields-count}
@@ -31,14 +32,24 @@ single-length k at p = fields-count (replicate k 1) at p ∙ length-replicate k 
 
 -- ---- a bell
 
+-- The bell of a record of any version, all fields at once: the priority stands after the rest.
+pub bell-bytes : (l : Layout) (p : List ℕ)
+    → bellIn l p
+    ≡ record { written = byteAt p 0; transposition = byteAt p 1; leastExecution = number 2 2 p; mostExecution = number 2 4 p; rest = number (l .restBytes) 6 p; priority = byteAt p (6 + l .restBytes) }
+unfolding bellIn fieldsIn
+bell-bytes l p =
+    λ i. record {
+      written = number-one 0 p i;
+      transposition = number-one 1 p i;
+      leastExecution = number 2 2 p;
+      mostExecution = number 2 4 p;
+      rest = number (l .restBytes) 6 p;
+      priority = number-one (6 + l .restBytes) p i;
+    }
+
+-- ---- a note
+
 module _ (p : List ℕ) where
-  -- The bell of a record, all fields at once.
-  pub bell-bytes : bellIn first p ≡ record { written = byteAt p 0; transposition = byteAt p 1; leastExecution = number 2 2 p; mostExecution = number 2 4 p; priority = byteAt p 6 }
-  unfolding bellIn fieldsIn
-  bell-bytes = λ i. record { written = number-one 0 p i; transposition = number-one 1 p i; leastExecution = number 2 2 p; mostExecution = number 2 4 p; priority = number-one 6 p i }
-
-  -- ---- a note
-
   -- The key is the byte after the length.
   pub note-key : noteIn first p .key ≡ byteAt p 1
   unfolding noteIn fieldsIn

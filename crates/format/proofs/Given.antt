@@ -30,11 +30,11 @@ opened p bytes ws vs n t e h =
     ∙ ap (λ (v : List ℕ). fieldsFile ws v ++ drop n p) (sym e)
 
 -- A bell that the rules let pass keeps to them, and is the one that they were asked.
-pub bell-passed : (before : List Bell) (at : ℕ) (a b : Bell) → bellRules before at a ≡ ok b
-    → (bellInRange a ≡ true) × (isNone (findSounding (sounding a) before) ≡ true) × (a ≡ b)
+pub bell-passed : (l : Layout) (before : List Bell) (at : ℕ) (a b : Bell) → bellRules l before at a ≡ ok b
+    → (bellInRange l a ≡ true) × (isNone (findSounding (sounding a) before) ≡ true) × (a ≡ b)
 unfolding bellRules
-bell-passed before at a b e =
-    let range = required (bellInRange a) wrongBell at e in
+bell-passed l before at a b e =
+    let range = required (bellInRange l a) wrongBell at e in
     let alone = required (isNone (findSounding (sounding a) before)) doubledKey at (range .1) in
     (range .0, alone .0, cc (alone .1))
 
@@ -58,7 +58,7 @@ pub bell-given : (l : Layout) (before : List Bell) (at : ℕ) (p : List ℕ) (b 
 unfolding bellRecord bellFile
 bell-given l before at p b bytes e =
     let long = required (leb (bellBytes l) (length p)) wrongEnd at e in
-    let same : bellIn l p ≡ b = bell-passed before at (bellIn l p) b (long .1) .2 in
+    let same : bellIn l p ≡ b = bell-passed l before at (bellIn l p) b (long .1) .2 in
     let enough = leb-true (bellBytes l) (length p) (long .0) in
     subst (BellGiven l p) same record {
       fits = subst (FieldsFit (bellWidths l)) (sym (bell-fields l p)) (fields-fit p bytes (bellWidths l) 0);

@@ -61,14 +61,14 @@ was-some (some x) e = refl
 was-some none e = absurd (false≢true e)
 
 -- The bell that a note strikes is there, is in range, and sounds for the key moved by the shift.
-pub strikes : (shift : ℕ) (bells : List Bell) (n : Note) → Each ValidBell [] bells → isSome (find (n .key) shift bells) ≡ true
-    → (struck shift bells n < length bells) × (bellInRange (getD bells (struck shift bells n) noBell) ≡ true) × (sounding (getD bells (struck shift bells n) noBell) ≡ transposed (n .key) shift)
-strikes shift bells n v e =
+pub strikes : (l : Layout) (shift : ℕ) (bells : List Bell) (n : Note) → Each (ValidBell l) [] bells → isSome (find (n .key) shift bells) ≡ true
+    → (struck shift bells n < length bells) × (bellInRange l (getD bells (struck shift bells n) noBell) ≡ true) × (sounding (getD bells (struck shift bells n) noBell) ≡ transposed (n .key) shift)
+strikes l shift bells n v e =
     let k : ℕ = struck shift bells n in
     let f = found-from (transposed (n .key) shift) 0 bells k (was-some (find (n .key) shift bells) e) in
     let same : f .place ≡ k = omega (arith, f .numbered) in
     let there : k < length bells = omega (arith, f .there) in
-    (there, each-at ValidBell [] bells v k noBell there .inRange, ap (λ (i : ℕ). sounding (getD bells i noBell)) (sym same) ∙ f .sounds)
+    (there, each-at (ValidBell l) [] bells v k noBell there .inRange, ap (λ (i : ℕ). sounding (getD bells i noBell)) (sym same) ∙ f .sounds)
 
 -- An element of a mapped list is the image of the element.
 pub getD-map : {A B : Type 0} (f : A → B) (xs : List A) (i : ℕ) (d : A) (e : B) → i < length xs → getD (map f xs) i e ≡ f (getD xs i d)
@@ -110,14 +110,14 @@ module _ (l : Layout) (x : Phrase) (v : ValidBy l x) (i : ℕ) (h : i < length (
   struck-bell : Bell
   struck-bell = getD (x .bells) (struck (x .shift) (x .bells) (note x i)) noBell
 
-  sounds : (bellInRange struck-bell ≡ true) × (sounding struck-bell ≡ shiftedKey x i)
+  sounds : (bellInRange l struck-bell ≡ true) × (sounding struck-bell ≡ shiftedKey x i)
   unfolding struck-bell
   sounds =
-      let s = strikes (x .shift) (x .bells) (note x i) (v .bells) (rule .sounds) in
+      let s = strikes l (x .shift) (x .bells) (note x i) (v .bells) (rule .sounds) in
       (s .1, s .2)
 
-  bell : BellRanges struck-bell
-  bell = bell-ranges struck-bell (sounds .0)
+  bell : BellRanges l struck-bell
+  bell = bell-ranges l struck-bell (sounds .0)
 
   key : lowestKey ≤ shiftedKey x i
   key = rw (sounds .1) at (bell .sounds .0)
@@ -126,7 +126,7 @@ module _ (l : Layout) (x : Phrase) (v : ValidBy l x) (i : ℕ) (h : i < length (
   unfolding struck-bell
   ranges =
       let t = times (note x i .earliestRelease) (note x i .latestRelease) (note x i .deadline) (rule .times) in
-      subst InRanges (sym is-job) record { execution = bell .execution; release = (t .0, t .1); deadline = t .2 }
+      subst InRanges (sym is-job) record { execution = bell .execution; release = (t .0, t .1); deadline = t .2; rest = bell .rest .0 }
 
   listed-earlier : (w : ℕ) → member w (job (jobsOf x) i .listed) ≡ true → w < i
   listed-earlier w m = rises-below i 0 (note x i .listed) (rw own at (rule .rising)) w (rw is-job at m)

@@ -1,7 +1,8 @@
 -- What holds of every row of the versions. Assumes nothing.
 use Prim.Native.Nat.{ℕ, zero, suc, _+_, _-_, _*_, _/_, _^_, _≤_, _<_}
 use mathlib.Core.Path.{_≡_, refl, ap, _∙_}
-use mathlib.Core.Bool.{Bool, true, false, _&&_}
+use mathlib.Core.Logic.{_⊎_, inl, inr, ⊎-elim}
+use mathlib.Core.Bool.{Bool, true, false, _&&_, _||_}
 use mathlib.Core.List.{List, [], _∷_}
 use native.Mathlib.Nat.{mul-div-cancel, mul-le-mul, mul-le-mul-right}
 use native.Mathlib.Omega.{arith}
@@ -9,7 +10,7 @@ use lib.Dec.{leb, ltb, eqb}
 use lib.ListN.{getD}
 use borrow.Author.Tests.{leb-true, ltb-true, eqb-true, eq-eqb}
 use Rattle.model.specs.Limits.{mostJobs}
-use Rattle.model.proofs.Booleans.{and-left, and-right}
+use Rattle.model.proofs.Booleans.{and-left, and-right, or-cases}
 use Rattle.format.specs.Bytes.{total}
 use Rattle.format.specs.Layout.{Layout, first, versions, layout, bellsAt, bellBytes, noteCountAt, mostBells, noteBytes, mostListed, noteLength, listedCount, isNoteLength, mostBytes, longestFile, headWidths, bellWidths, noteWidths}
 use Rattle.format.specs.internal.Sized.{Sized}
@@ -32,15 +33,17 @@ kept-at keeps (l ∷ ls) h (suc i) d e = kept-at keeps ls (and-right (keeps l) _
 keepsSizes : Layout → Bool
 keepsSizes l =
     leb (l .shiftBytes) 1
+    && ((eqb (l .restBytes) 0 || eqb (l .restBytes) 2)
     && (leb 1 (l .countBytes)
     && (leb (l .countBytes) 2
     && (ltb (l .mostNotes) (256 ^ l .countBytes)
-    && (leb 1 (l .listedBytes) && (leb (l .listedBytes) 2 && (leb (l .mostNotes) (256 ^ l .listedBytes) && leb (l .mostNotes) 256))))))
+    && (leb 1 (l .listedBytes) && (leb (l .listedBytes) 2 && (leb (l .mostNotes) (256 ^ l .listedBytes) && leb (l .mostNotes) 256)))))))
 
 kept : (l : Layout) → keepsSizes l ≡ true → Sized l
 unfolding keepsSizes
 kept l e =
-    let e0 = and-right (leb (l .shiftBytes) 1) _ e in
+    let t0 = and-right (leb (l .shiftBytes) 1) _ e in
+    let e0 = and-right (eqb (l .restBytes) 0 || eqb (l .restBytes) 2) _ t0 in
     let e1 = and-right (leb 1 (l .countBytes)) _ e0 in
     let e2 = and-right (leb (l .countBytes) 2) _ e1 in
     let e3 = and-right (ltb (l .mostNotes) (256 ^ l .countBytes)) _ e2 in
@@ -48,6 +51,7 @@ kept l e =
     let e5 = and-right (leb (l .listedBytes) 2) _ e4 in
     record {
       shift = leb-true (l .shiftBytes) 1 (and-left (leb (l .shiftBytes) 1) _ e);
+      rest = either (and-left (eqb (l .restBytes) 0 || eqb (l .restBytes) 2) _ t0);
       count = (
         leb-true 1 (l .countBytes) (and-left (leb 1 (l .countBytes)) _ e0),
         leb-true (l .countBytes) 2 (and-left (leb (l .countBytes) 2) _ e1),
@@ -60,6 +64,9 @@ kept l e =
       );
       notes = leb-true (l .mostNotes) 256 (and-right (leb (l .mostNotes) (256 ^ l .listedBytes)) _ e5);
     }
+  where
+    either : (eqb (l .restBytes) 0 || eqb (l .restBytes) 2) ≡ true → (l .restBytes ≡ 0) ⊎ (l .restBytes ≡ 2)
+    either q = ⊎-elim (λ r. inl (eqb-true (l .restBytes) 0 r)) (λ r. inr (eqb-true (l .restBytes) 2 r)) (or-cases (eqb (l .restBytes) 0) (eqb (l .restBytes) 2) q)
 
 -- The layout of every version keeps to the sizes.
 pub sized : (v : ℕ) → Sized (layout v)
@@ -160,7 +167,11 @@ module _ (l : Layout) where
     unfolding noteLength
     length-small = omega (arith, z .listed)
 
+    -- A rest takes at most two bytes.
+    pub rest-small : l .restBytes ≤ 2
+    rest-small = ⊎-elim (λ e. omega arith) (λ e. omega arith) (z .rest)
+
     -- The length of a file fits the four bytes of the count.
     pub bytes-small : mostBytes l < 256 ^ 4
     unfolding mostBytes
-    bytes-small = omega (arith, z .shift, z .count, mul-le-mul (z .notes) length-small)
+    bytes-small = omega (arith, z .shift, rest-small, z .count, mul-le-mul (z .notes) length-small)

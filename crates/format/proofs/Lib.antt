@@ -18,6 +18,7 @@ pub mod Files
 pub mod Jobs
 pub mod Steps
 pub mod Rising
+pub mod Unrested
 pub mod AnyRules
 pub mod Retold
 pub mod Order

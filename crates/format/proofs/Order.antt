@@ -1,4 +1,5 @@
--- What the order of a note's rules changed: a file or a phrase has the answer that it had, but that a note with no bell and wrong times was 10 and is 11, at the same place. Assumes nothing.
+-- What the order of a note's rules changed, in all versions as they are: a file or a phrase has the answer that it would have in the old order, but that a note with no bell and
+-- wrong times was 10 and is 11, at the same place. Assumes nothing.
 use Prim.Native.Nat.{ℕ}
 use mathlib.Core.Path.{_≡_, refl, sym, ap, _∙_, subst}
 use mathlib.Core.Bool.{Bool, true, false, not, cond, _&&_, false≢true}

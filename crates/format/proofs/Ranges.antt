@@ -10,12 +10,12 @@ use native.Mathlib.Omega.{arith}
 use lib.Dec.{leb, ltb, eqb}
 use lib.ListN.{length, replicate, length-append}
 use borrow.Author.Tests.{leb-true, ltb-true, ltb-false, eqb-true}
-use Rattle.model.specs.Limits.{longestExecution, latestTime}
+use Rattle.model.specs.Limits.{longestExecution, longestRest, latestTime}
 use Rattle.model.proofs.Booleans.{and-left, and-right, or-cases}
 use Rattle.format.specs.Bytes.{digits, within, records}
 use Rattle.format.specs.Layout.{Layout, versions, isVersion, layout, bellsAt, mostListed, noteLength, mostBytes}
 use Rattle.format.specs.Phrase.{Bell, Note, Phrase, sounding, transposed, findFrom, isSome}
-use Rattle.format.specs.Rules.{lowestKey, highestKey, isTransposition, isShift, isExecutionRange, bellInRange, areTimes, rises}
+use Rattle.format.specs.Rules.{lowestKey, highestKey, isTransposition, isShift, isExecutionRange, isRest, bellInRange, areTimes, rises}
 use Rattle.format.specs.Valid.{Each, ValidBell, ValidNote, ValidBy, Valid}
 use Rattle.format.specs.Writing.{bellFile, noteFile, body}
 use Rattle.format.specs.Fits.{FieldsFit, All, FitsBy, Fits}
@@ -36,6 +36,11 @@ executions least most e =
     let order = leb-true least most (and-left (leb least most) _ r) in
     (low, order, leb-true most longestExecution (and-right (leb least most) _ r))
 
+-- A rest is at most the longest, and fits its bytes.
+pub rest-fits : (l : Layout) (r : ℕ) → isRest l r ≡ true → (r ≤ longestRest) × (r < 256 ^ l .restBytes)
+unfolding isRest
+rest-fits l r e = (leb-true r longestRest (and-left (leb r longestRest) _ e), ltb-true r (256 ^ l .restBytes) (and-right (leb r longestRest) _ e))
+
 -- A transposition is at most 24 up or down.
 pub transposes : (t : ℕ) → isTransposition t ≡ true → (t ≤ 24) ⊎ ((232 ≤ t) × (t ≤ 255))
 unfolding isTransposition
@@ -54,36 +59,39 @@ transposition-small t e = go (transposes t e)
     go (inr q) = omega arith
 
 -- What a bell in range says of its fields.
-pub record BellRanges (b : Bell) : Type 0 where
+pub record BellRanges (l : Layout) (b : Bell) : Type 0 where
   pub written : (lowestKey ≤ b .written) × (b .written ≤ highestKey)
   pub transposition : b .transposition < 256
   pub sounds : (lowestKey ≤ sounding b) × (sounding b ≤ highestKey)
   pub execution : (1 ≤ b .leastExecution) × (b .leastExecution ≤ b .mostExecution) × (b .mostExecution ≤ longestExecution)
+  pub rest : (b .rest ≤ longestRest) × (b .rest < 256 ^ l .restBytes)
   pub priority : b .priority < 256
 
 -- A bell in range has its fields in their ranges.
-pub bell-ranges : (b : Bell) → bellInRange b ≡ true → BellRanges b
+pub bell-ranges : (l : Layout) (b : Bell) → bellInRange l b ≡ true → BellRanges l b
 unfolding bellInRange
-bell-ranges b e =
+bell-ranges l b e =
     let isKey : ℕ → Bool = within lowestKey highestKey in
     let e1 = and-right (isKey (b .written)) _ e in
     let e2 = and-right (isTransposition (b .transposition)) _ e1 in
     let e3 = and-right (isKey (sounding b)) _ e2 in
     let e4 = and-right (isExecutionRange (b .leastExecution) (b .mostExecution)) _ e3 in
+    let e5 = and-right (isRest l (b .rest)) _ e4 in
     record {
       written = within-true lowestKey highestKey (b .written) (and-left (isKey (b .written)) _ e);
       transposition = transposition-small (b .transposition) (and-left (isTransposition (b .transposition)) _ e1);
       sounds = within-true lowestKey highestKey (sounding b) (and-left (isKey (sounding b)) _ e2);
       execution = executions (b .leastExecution) (b .mostExecution) (and-left (isExecutionRange (b .leastExecution) (b .mostExecution)) _ e3);
-      priority = ltb-true (b .priority) 256 (e4);
+      rest = rest-fits l (b .rest) (and-left (isRest l (b .rest)) _ e4);
+      priority = ltb-true (b .priority) 256 e5;
     }
 
-bell-fits : (l : Layout) (b : Bell) → bellInRange b ≡ true → BellFits l b
+bell-fits : (l : Layout) (b : Bell) → bellInRange l b ≡ true → BellFits l b
 bell-fits l b e =
-    let r = bell-ranges b e in
-    (omega (arith, r .written), (r .transposition, (omega (arith, r .execution), (omega (arith, r .execution), (r .priority, tt)))))
+    let r = bell-ranges l b e in
+    (omega (arith, r .written), (r .transposition, (omega (arith, r .execution), (omega (arith, r .execution), (r .rest .1, (r .priority, tt))))))
 
-bells-fit : (l : Layout) (before bells : List Bell) → Each ValidBell before bells → All (BellFits l) bells
+bells-fit : (l : Layout) (before bells : List Bell) → Each (ValidBell l) before bells → All (BellFits l) bells
 unfolding Each All
 bells-fit l before [] v = tt
 bells-fit l before (b ∷ bs) v = (bell-fits l b (v .0 .inRange), bells-fit l (before ++ b ∷ []) bs (v .1))
@@ -99,15 +107,15 @@ times ra rb d e =
     (order, leb-true rb latestTime (and-left (leb rb latestTime) _ r), leb-true d latestTime (and-right (leb rb latestTime) _ r))
 
 -- a key that valid bells sound for is one of theirs
-found-key : (key i : ℕ) (before bells : List Bell) → Each ValidBell before bells → isSome (findFrom key i bells) ≡ true → key ≤ highestKey
+found-key : (l : Layout) (key i : ℕ) (before bells : List Bell) → Each (ValidBell l) before bells → isSome (findFrom key i bells) ≡ true → key ≤ highestKey
 unfolding findFrom Each
-found-key key i before [] v e = absurd (false≢true e)
-found-key key i before (b ∷ bs) v e = go (eqb (sounding b) key) refl e (found-key key (i + 1) (before ++ b ∷ []) bs (v .1))
+found-key l key i before [] v e = absurd (false≢true e)
+found-key l key i before (b ∷ bs) v e = go (eqb (sounding b) key) refl e (found-key l key (i + 1) (before ++ b ∷ []) bs (v .1))
   where
     go : (t : Bool) → eqb (sounding b) key ≡ t → isSome (cond t (some i) (findFrom key (i + 1) bs)) ≡ true
         → (isSome (findFrom key (i + 1) bs) ≡ true → key ≤ highestKey)
         → key ≤ highestKey
-    go true q f later = omega (arith, eqb-true (sounding b) key q, bell-ranges b (v .0 .inRange) .sounds)
+    go true q f later = omega (arith, eqb-true (sounding b) key q, bell-ranges l b (v .0 .inRange) .sounds)
     go false q f later = later f
 
 -- A shift is a transposition, and fits its bytes.
@@ -133,11 +141,11 @@ listed-fit w own low (x ∷ xs) h e =
     (omega arith, listed-fit w own (x + 1) xs h (and-right (ltb x own) _ r))
 
 module _ (l : Layout) (shift : ℕ) (bells : List Bell) where
-  module _ (z : Sized l) (v : Each ValidBell [] bells) (s : isTransposition shift ≡ true) where
+  module _ (z : Sized l) (v : Each (ValidBell l) [] bells) (s : isTransposition shift ≡ true) where
     note-fits : (before : List Note) (n : Note) → ValidNote shift bells before n → length before ≤ l .mostNotes → NoteFits l n
     note-fits before n r h =
         let t = times (n .earliestRelease) (n .latestRelease) (n .deadline) (r .times) in
-        let key : n .key < 256 = key-small (n .key) shift s (found-key (transposed (n .key) shift) 0 [] bells v (r .sounds)) in
+        let key : n .key < 256 = key-small (n .key) shift s (found-key l (transposed (n .key) shift) 0 [] bells v (r .sounds)) in
         let size : noteLength l (length (n .listed)) < 256 = omega (arith, lengths l (length (n .listed)) (r .few), length-small l z) in
         let listed = listed-fit (l .listedBytes) (length before) 0 (n .listed) (omega (arith, z .listed)) (r .rising) in
         (size, (omega arith, (omega (arith, t), (omega (arith, t), (omega (arith, t), listed)))))

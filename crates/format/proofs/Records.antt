@@ -41,13 +41,13 @@ module _ (l : Layout) where
     bell-same more = ap bellOf (fields-back (bellWidths l) (bellFields b) f [] more 0 refl)
 
     -- The record of a bell, once written, is read by its rules alone.
-    pub bell-back : (before : List Bell) (at : ℕ) (more : List ℕ) → bellRecord l before at (bellFile l b ++ more) ≡ bellRules before at b
+    pub bell-back : (before : List Bell) (at : ℕ) (more : List ℕ) → bellRecord l before at (bellFile l b ++ more) ≡ bellRules l before at b
     unfolding bellRecord
     bell-back before at more =
         let p : List ℕ = bellFile l b ++ more in
         let long : bellBytes l ≤ length p = omega (arith, bell-size l b, length-append (bellFile l b) more) in
-        passed (leb (bellBytes l) (length p)) wrongEnd at (bellRules before at (bellIn l p)) (le-leb (bellBytes l) (length p) long)
-        ∙ ap (bellRules before at) (bell-same more)
+        passed (leb (bellBytes l) (length p)) wrongEnd at (bellRules l before at (bellIn l p)) (le-leb (bellBytes l) (length p) long)
+        ∙ ap (bellRules l before at) (bell-same more)
 
   note-of-fields : (k : ℕ) (p : List ℕ) → listedBy l p ≡ k → noteOf (fieldsIn (noteWidths l k) 0 p) ≡ noteIn l p
   unfolding noteIn

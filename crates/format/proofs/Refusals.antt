@@ -70,10 +70,10 @@ module _ (l : Layout) where
   -- ---- one record
 
   module _ (at : ℕ) (h : at ≤ mostBytes l) where
-    bell-rules-refuse : (before : List Bell) (b : Bell) → Refuses l (bellRules before at b)
+    bell-rules-refuse : (before : List Bell) (b : Bell) → Refuses l (bellRules l before at b)
     unfolding bellRules isReadingRefusal
     bell-rules-refuse before b =
-        require-refuses l (bellInRange b) wrongBell at (refl, h) (λ r. require-refuses l (isNone (findSounding (sounding b) before)) doubledKey at (refl, h) (λ a. value-refuses l b))
+        require-refuses l (bellInRange l b) wrongBell at (refl, h) (λ r. require-refuses l (isNone (findSounding (sounding b) before)) doubledKey at (refl, h) (λ a. value-refuses l b))
 
     note-rules-refuse : (shift : ℕ) (bells : List Bell) (own : ℕ) (n : Note) → Refuses l (noteRules shift bells own at n)
     unfolding noteRules isReadingRefusal
@@ -99,7 +99,7 @@ module _ (l : Layout) where
   bells-rules-refuse [] at h before = value-refuses l before
   bells-rules-refuse (b ∷ bs) at h before =
       let k = suc-mul (length bs) (bellBytes l) in
-      then-refuses l (bellRules before at b) (bell-rules-refuse at (omega (arith, k)) before b)
+      then-refuses l (bellRules l before at b) (bell-rules-refuse at (omega (arith, k)) before b)
       (λ c e. bells-rules-refuse bs (at + bellBytes l) (omega (arith, k)) (before ++ c ∷ []))
 
   notes-rules-refuse : (shift : ℕ) (bells : List Bell) (notes : List Note) (at : ℕ) → at + length notes * (1 + noteLength l mostListed) ≤ mostBytes l → (before : List Note)

@@ -74,12 +74,12 @@ module _ (old new : ℕ) (other : (n : ℕ) → within silentKey wrongTimes n �
       told-then {B} (ok b) o {f} {g} e h = record { told = ap (λ (q : Outcome B). _>>=_ q g) (e .told) ∙ h b refl .told }
       told-then {B} (refused n at) o {f} {g} e h = record { told = ap (λ (q : Outcome B). _>>=_ q g) (e .told) }
 
-    bell-rules-told : (before : List Bell) (at : ℕ) (b : Bell) → Told old new right (bellRules before at b) (bellRules before at b)
-    unfolding bellRules within
-    bell-rules-told before at b =
-        told-require (bellInRange b) wrongBell at refl (told-require (isNone (findSounding (sounding b) before)) doubledKey at refl (told-value b))
-
     module _ (l : Layout) where
+      bell-rules-told : (before : List Bell) (at : ℕ) (b : Bell) → Told old new right (bellRules l before at b) (bellRules l before at b)
+      unfolding bellRules within
+      bell-rules-told before at b =
+          told-require (bellInRange l b) wrongBell at refl (told-require (isNone (findSounding (sounding b) before)) doubledKey at refl (told-value b))
+
       bell-record-told : (before : List Bell) (at : ℕ) (p : List ℕ) → Told old new right (bellRecord l before at p) (bellRecord l before at p)
       unfolding bellRecord within
       bell-record-told before at p = told-require (leb (bellBytes l) (length p)) wrongEnd at refl (bell-rules-told before at (bellIn l p))
@@ -101,7 +101,7 @@ module _ (old new : ℕ) (other : (n : ℕ) → within silentKey wrongTimes n �
       unfolding bellsRules
       bells-rules-told [] at before = told-value before
       bells-rules-told (b ∷ bs) at before =
-          told-then (bellRules before at b) (bellRules before at b) (bell-rules-told before at b) (λ c e. bells-rules-told bs (at + bellBytes l) (before ++ c ∷ []))
+          told-then (bellRules l before at b) (bellRules l before at b) (bell-rules-told before at b) (λ c e. bells-rules-told bs (at + bellBytes l) (before ++ c ∷ []))
 
       all-bells-told : (bells : List Bell) → Told old new right (allBells l bells) (allBells l bells)
       unfolding allBells within

@@ -1,8 +1,8 @@
 -- What is heard of a phrase decides its jobs; and a phrase written with a shift and its keys moved the other way is heard as before. Assumes nothing.
-use Prim.Native.Nat.{ℕ, _+_, _-_, _≤_, _<_}
+use Prim.Native.Nat.{ℕ, zero, suc, _+_, _-_, _^_, max, _≤_, _<_}
 use mathlib.Core.Path.{_≡_, refl, sym, ap, _∙_, subst}
 use mathlib.Core.Logic.{_⊎_, inl, inr}
-use mathlib.Core.Bool.{Bool, true, false, cond}
+use mathlib.Core.Bool.{Bool, true, false, cond, false≢true}
 use mathlib.Core.List.{List, [], _∷_, _++_, map, map-map}
 use native.Mathlib.Omega.{arith}
 use lib.Dec.{leb}
@@ -10,17 +10,18 @@ use lib.ListN.{length, getD, length-append, length-map}
 use borrow.Author.Tests.{leb-true, leb-false, lt-ltb, le-ltb}
 use Rattle.model.proofs.Booleans.{and-both}
 use Rattle.format.specs.Bytes.{fits}
-use Rattle.format.specs.Layout.{isVersion, layout}
+use Rattle.format.specs.Layout.{Layout, isVersion, layout}
 use Rattle.format.specs.Outcome.{ok}
 use Rattle.format.specs.Phrase.{Bell, Note, Phrase, transposed, findSounding, isSome}
 use Rattle.format.specs.Rules.{rises, isTransposition, isShift}
 use Rattle.format.specs.Reading.{reading}
 use Rattle.format.specs.Jobs.{noNote, shiftedKey, jobsOf}
-use Rattle.format.specs.Valid.{Each, ValidNote, Valid}
+use Rattle.format.specs.Valid.{Each, ValidBell, ValidNote, Valid}
 use Rattle.format.specs.Writing.{written}
 use Rattle.format.specs.Fits.{All}
 use Rattle.format.specs.Shifting.{moved, heard, opposite, shiftedBy, Movable}
-use Rattle.format.proofs.Layouts.{most-notes}
+use Rattle.format.proofs.Passed.{within-true}
+use Rattle.format.proofs.Versions.{bell-in-range}
 use Rattle.format.proofs.Ranges.{transposes, transposition-small}
 use Rattle.format.proofs.Jobs.{getD-map}
 use Rattle.format.proofs.Theorems.{round-trip}
@@ -76,6 +77,22 @@ there-and-back t key e above = go (transposes t e) (leb t 0) refl
 
 -- ---- a phrase with a shift of 0, written with another
 
+-- the version of a phrase that is written with a shift: a rest takes the bytes that it took, and there may be as many notes
+with-a-shift : (v : ℕ) → isVersion v ≡ true
+    → (isVersion (max 2 v) ≡ true) × (layout (max 2 v) .shiftBytes ≡ 1) × (layout v .restBytes ≡ layout (max 2 v) .restBytes) × (layout v .mostNotes ≡ layout (max 2 v) .mostNotes)
+unfolding isVersion layout
+with-a-shift zero e = absurd (false≢true e)
+with-a-shift (suc zero) e = (refl, refl, refl, refl)
+with-a-shift (suc (suc zero)) e = (refl, refl, refl, refl)
+with-a-shift (suc (suc (suc zero))) e = (refl, refl, refl, refl)
+with-a-shift (suc (suc (suc (suc v)))) e = absurd (omega (arith, within-true 1 3 (suc (suc (suc (suc v)))) e))
+
+bells-valid : (k l : Layout) → k .restBytes ≡ l .restBytes → (before bells : List Bell) → Each (ValidBell k) before bells → Each (ValidBell l) before bells
+unfolding Each
+bells-valid k l same before [] v = tt
+bells-valid k l same before (b ∷ bs) v =
+    (record { inRange = sym (bell-in-range k l same b) ∙ v .0 .inRange; alone = v .0 .alone }, bells-valid k l same (before ++ b ∷ []) bs (v .1))
+
 module _ (t : ℕ) (e : isTransposition t ≡ true) where
   sounds-alike : (n : Note) → (t < 128 → t ≤ n .key) → transposed (moved (opposite t) n .key) t ≡ transposed (n .key) 0
   sounds-alike n above = there-and-back t (n .key) e above ∙ sym (unmoved (n .key))
@@ -121,17 +138,20 @@ module _ (t : ℕ) (e : isTransposition t ≡ true) where
 
     -- It is valid where the phrase was.
     pub shifted-valid : Valid x → Valid (shiftedBy t x)
-    unfolding isVersion layout isShift
+    unfolding isShift
     shifted-valid valid =
         let v = valid .fields in
+        let l : Layout = layout (max 2 (x .version)) in
+        let (version, shift, rest, most) = with-a-shift (x .version) (valid .version) in
+        let small : t < 256 ^ l .shiftBytes = subst (λ (w : ℕ). t < 256 ^ w) (sym shift) (transposition-small t e) in
         record {
-          version = refl;
+          version = version;
           fields = record {
             cores = v .cores;
-            shift = and-both (isTransposition t) (fits 1 t) e (lt-ltb t 256 (transposition-small t e));
+            shift = and-both (isTransposition t) (fits (l .shiftBytes) t) e (lt-ltb t (256 ^ l .shiftBytes) small);
             bellCount = v .bellCount;
-            bells = v .bells;
-            noteCount = omega (arith, v .noteCount, most-notes (x .version), length-map (x .notes) (moved (opposite t)));
+            bells = bells-valid (layout (x .version)) l rest [] (x .bells) (v .bells);
+            noteCount = omega (arith, v .noteCount, most, length-map (x .notes) (moved (opposite t)));
             notes = notes-valid (x .bells) [] [] refl (x .notes) movable (subst (λ (u : ℕ). Each (ValidNote u (x .bells)) [] (x .notes)) none (v .notes));
           };
         }

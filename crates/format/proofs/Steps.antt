@@ -19,18 +19,18 @@ use Rattle.format.specs.Reading.{bellIn, bellRecord, noteIn, noteRecord,
 
 module _ (l : Layout) (bs : List Bell) (at : ℕ) (b : Bell) where
   -- A bell out of its ranges is refused.
-  pub outside : bellInRange b ≡ false → bellRules bs at b ≡ refused wrongBell at
+  pub outside : bellInRange l b ≡ false → bellRules l bs at b ≡ refused wrongBell at
   unfolding bellRules
   outside e = simp e
 
-  module _ (e : bellInRange b ≡ true) where
+  module _ (e : bellInRange l b ≡ true) where
     -- A bell in range is refused where one before sounds for its key.
-    pub doubled : (k : ℕ) → findSounding (sounding b) bs ≡ some k → bellRules bs at b ≡ refused doubledKey at
+    pub doubled : (k : ℕ) → findSounding (sounding b) bs ≡ some k → bellRules l bs at b ≡ refused doubledKey at
     unfolding bellRules
     doubled k f = simp (e, f)
 
     -- A bell in range passes where none before sounds for its key.
-    pub whole : findSounding (sounding b) bs ≡ none → bellRules bs at b ≡ ok b
+    pub whole : findSounding (sounding b) bs ≡ none → bellRules l bs at b ≡ ok b
     unfolding bellRules
     whole f = simp (e, f)
 
@@ -66,7 +66,7 @@ module _ (l : Layout) (bs : List Bell) (at : ℕ) (p : List ℕ) where
   short h = simp (lt-leb _ _ h)
 
   -- A record that is long enough is read by the rules of a bell.
-  pub long : bellBytes l ≤ length p → bellRecord l bs at p ≡ bellRules bs at (bellIn l p)
+  pub long : bellBytes l ≤ length p → bellRecord l bs at p ≡ bellRules l bs at (bellIn l p)
   unfolding bellRecord
   long h = simp (le-leb _ _ h)
 

@@ -1,4 +1,4 @@
--- What the versions have alike: the records of bells, and those of notes wherever a number listed takes one byte. Assumes nothing.
+-- What the versions have alike: the records of bells wherever a rest takes as many bytes, and those of notes wherever a number listed takes one. Assumes nothing.
 use Prim.Native.Nat.{ℕ, zero, suc, _+_}
 use mathlib.Core.Path.{_≡_, refl, ap, _∙_}
 use mathlib.Core.List.{List, [], _∷_, _++_}
@@ -9,76 +9,87 @@ use Rattle.format.specs.Bytes.{number, within}
 use Rattle.format.specs.Layout.{Layout, first, isVersion, bellBytes, mostListed, listedCount, isNoteLength, noteLength}
 use Rattle.format.specs.Outcome.{Outcome, _>>=_, _>>_, require}
 use Rattle.format.specs.Phrase.{Bell, Note}
-use Rattle.format.specs.Rules.{bellRules, noteRules, bellsRules, notesRules}
+use Rattle.format.specs.Rules.{isRest, bellInRange, bellRules, noteRules, bellsRules, notesRules}
 use Rattle.format.specs.Reading.{bellIn, bellRecord, noteIn, noteRecord, bellsFrom, notesFrom}
 use Rattle.format.specs.Writing.{bellFile, noteFile}
 use Rattle.format.proofs.Passed.{same-then}
 
--- There are two versions.
-pub versions-are : (v : ℕ) → isVersion v ≡ within 1 2 v
+-- There are three versions.
+pub versions-are : (v : ℕ) → isVersion v ≡ within 1 3 v
 unfolding isVersion
 versions-are v = refl
 
-module _ (l : Layout) where
-  -- ---- bells
+-- ---- bells
 
-  bell-record : (before : List Bell) (at : ℕ) (p : List ℕ) → bellRecord first before at p ≡ bellRecord l before at p
-  unfolding bellRecord bellIn
-  bell-record before at p = refl
+module _ (k l : Layout) (same : k .restBytes ≡ l .restBytes) where
+  -- The same bells are in range.
+  pub bell-in-range : (b : Bell) → bellInRange k b ≡ bellInRange l b
+  unfolding bellInRange isRest
+  bell-in-range b = rw (← same) refl
+
+  bell-rules : (before : List Bell) (at : ℕ) (b : Bell) → bellRules k before at b ≡ bellRules l before at b
+  unfolding bellRules
+  bell-rules before at b = rw bell-in-range refl
+
+  bell-record : (before : List Bell) (at : ℕ) (p : List ℕ) → bellRecord k before at p ≡ bellRecord l before at p
+  unfolding bellRecord bellIn bellRules bellInRange isRest
+  bell-record before at p = rw (← same) refl
 
   -- Bells are read alike from a place on.
-  pub bells-from : (s : List ℕ) (n at : ℕ) (before : List Bell) → bellsFrom first s n at before ≡ bellsFrom l s n at before
+  pub bells-from : (s : List ℕ) (n at : ℕ) (before : List Bell) → bellsFrom k s n at before ≡ bellsFrom l s n at before
   unfolding bellsFrom
   bells-from s zero at before = refl
   bells-from s (suc n) at before =
-      ap (λ (o : Outcome Bell). _>>=_ o (λ b. bellsFrom first s n (at + bellBytes first) (before ++ b ∷ []))) (bell-record before at (drop at s))
+      (λ i. _>>=_ (bell-record before at (drop at s) i) (λ b. bellsFrom k s n (at + (7 + same i)) (before ++ b ∷ [])))
       ∙ same-then (bellRecord l before at (drop at s)) _ _ (λ b. bells-from s n (at + bellBytes l) (before ++ b ∷ []))
 
   -- The rules ask the same of bells from a place on.
-  pub bells-rules : (bs : List Bell) (at : ℕ) (before : List Bell) → bellsRules first bs at before ≡ bellsRules l bs at before
+  pub bells-rules : (bs : List Bell) (at : ℕ) (before : List Bell) → bellsRules k bs at before ≡ bellsRules l bs at before
   unfolding bellsRules
   bells-rules [] at before = refl
-  bells-rules (b ∷ bs) at before = same-then (bellRules before at b) _ _ (λ c. bells-rules bs (at + bellBytes l) (before ++ c ∷ []))
+  bells-rules (b ∷ bs) at before =
+      (λ i. _>>=_ (bell-rules before at b i) (λ c. bellsRules k bs (at + (7 + same i)) (before ++ c ∷ [])))
+      ∙ same-then (bellRules l before at b) _ _ (λ c. bells-rules bs (at + bellBytes l) (before ++ c ∷ []))
 
   -- A bell has the same bytes.
-  pub bell-file : bellFile first ≡ bellFile l
+  pub bell-file : bellFile k ≡ bellFile l
   unfolding bellFile
-  bell-file = refl
+  bell-file = rw (← same) refl
 
-  -- ---- notes
+-- ---- notes
 
-  module _ (one : first .listedBytes ≡ l .listedBytes) where
-    note-record : (shift : ℕ) (bells : List Bell) (own at : ℕ) (p : List ℕ) → noteRecord first shift bells own at p ≡ noteRecord l shift bells own at p
-    unfolding noteRecord noteIn isNoteLength listedCount noteLength
-    note-record shift bells own at p = rw (← one) refl
+module _ (l : Layout) (one : first .listedBytes ≡ l .listedBytes) where
+  note-record : (shift : ℕ) (bells : List Bell) (own at : ℕ) (p : List ℕ) → noteRecord first shift bells own at p ≡ noteRecord l shift bells own at p
+  unfolding noteRecord noteIn isNoteLength listedCount noteLength
+  note-record shift bells own at p = rw (← one) refl
 
-    -- Notes are read alike from a place on.
-    pub notes-from : (s : List ℕ) (shift : ℕ) (bells : List Bell) (n at : ℕ) (before : List Note)
-        → notesFrom first s shift bells n at before ≡ notesFrom l s shift bells n at before
-    unfolding notesFrom
-    notes-from s shift bells zero at before = refl
-    notes-from s shift bells (suc n) at before =
-        let to : ℕ = at + (1 + number 1 at s) in
-        ap (λ (o : Outcome Note). _>>=_ o (λ a. notesFrom first s shift bells n to (before ++ a ∷ []))) (note-record shift bells (length before) at (drop at s))
-        ∙ same-then (noteRecord l shift bells (length before) at (drop at s)) _ _ (λ a. notes-from s shift bells n to (before ++ a ∷ []))
+  -- Notes are read alike from a place on.
+  pub notes-from : (s : List ℕ) (shift : ℕ) (bells : List Bell) (n at : ℕ) (before : List Note)
+      → notesFrom first s shift bells n at before ≡ notesFrom l s shift bells n at before
+  unfolding notesFrom
+  notes-from s shift bells zero at before = refl
+  notes-from s shift bells (suc n) at before =
+      let to : ℕ = at + (1 + number 1 at s) in
+      ap (λ (o : Outcome Note). _>>=_ o (λ a. notesFrom first s shift bells n to (before ++ a ∷ []))) (note-record shift bells (length before) at (drop at s))
+      ∙ same-then (noteRecord l shift bells (length before) at (drop at s)) _ _ (λ a. notes-from s shift bells n to (before ++ a ∷ []))
 
-    note-length : (k : ℕ) → noteLength first k ≡ noteLength l k
-    unfolding noteLength
-    note-length k = rw (← one) refl
+  note-length : (k : ℕ) → noteLength first k ≡ noteLength l k
+  unfolding noteLength
+  note-length k = rw (← one) refl
 
-    -- The rules ask the same of notes from a place on.
-    pub notes-rules : (shift : ℕ) (bells : List Bell) (ns : List Note) (at : ℕ) (before : List Note)
-        → notesRules first shift bells ns at before ≡ notesRules l shift bells ns at before
-    unfolding notesRules
-    notes-rules shift bells [] at before = refl
-    notes-rules shift bells (n ∷ ns) at before =
-        let k : ℕ = length (n .listed) in
-        ap (λ (o : Outcome (List Note)). _>>_ (require (leb k mostListed) wrongNoteLength at) o)
-        (same-then (noteRules shift bells (length before) at n) _ _
-        (λ c. ap (λ (m : ℕ). notesRules first shift bells ns (at + (1 + m)) (before ++ c ∷ [])) (note-length k)
-        ∙ notes-rules shift bells ns (at + (1 + noteLength l k)) (before ++ c ∷ [])))
+  -- The rules ask the same of notes from a place on.
+  pub notes-rules : (shift : ℕ) (bells : List Bell) (ns : List Note) (at : ℕ) (before : List Note)
+      → notesRules first shift bells ns at before ≡ notesRules l shift bells ns at before
+  unfolding notesRules
+  notes-rules shift bells [] at before = refl
+  notes-rules shift bells (n ∷ ns) at before =
+      let k : ℕ = length (n .listed) in
+      ap (λ (o : Outcome (List Note)). _>>_ (require (leb k mostListed) wrongNoteLength at) o)
+      (same-then (noteRules shift bells (length before) at n) _ _
+      (λ c. ap (λ (m : ℕ). notesRules first shift bells ns (at + (1 + m)) (before ++ c ∷ [])) (note-length k)
+      ∙ notes-rules shift bells ns (at + (1 + noteLength l k)) (before ++ c ∷ [])))
 
-    -- A note has the same bytes.
-    pub note-file : noteFile first ≡ noteFile l
-    unfolding noteFile noteLength
-    note-file = rw (← one) refl
+  -- A note has the same bytes.
+  pub note-file : noteFile first ≡ noteFile l
+  unfolding noteFile noteLength
+  note-file = rw (← one) refl

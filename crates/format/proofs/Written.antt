@@ -38,10 +38,10 @@ module _ (l : Layout) where
       let tail : List ℕ = records (bellFile l) bs ++ more in
       let split : s ≡ before ++ bellFile l b ++ tail = ap (λ (r : List ℕ). before ++ r) (append-assoc (bellFile l b) _ _) ∙ sym (append-assoc before (bellFile l b) tail) in
       let here : drop at s ≡ bellFile l b ++ tail = drop-at before _ at e ∙ append-assoc (bellFile l b) _ _ in
-      let this : bellRecord l bells at (drop at s) ≡ bellRules bells at b = ap (bellRecord l bells at) here ∙ bell-back l b (f .0) bells at tail in
+      let this : bellRecord l bells at (drop at s) ≡ bellRules l bells at b = ap (bellRecord l bells at) here ∙ bell-back l b (f .0) bells at tail in
       let next : length (before ++ bellFile l b) ≡ at + bellBytes l = omega (arith, length-append before (bellFile l b), bell-size l b) in
       ap (λ (o : Outcome Bell). _>>=_ o (λ c. bellsFrom l s (length bs) (at + bellBytes l) (bells ++ c ∷ []))) this
-      ∙ same-then (bellRules bells at b) _ _
+      ∙ same-then (bellRules l bells at b) _ _
       (λ c. ap (λ (t : List ℕ). bellsFrom l t (length bs) (at + bellBytes l) (bells ++ c ∷ [])) split
       ∙ bells-back bs (f .1) (before ++ bellFile l b) more (at + bellBytes l) next (bells ++ c ∷ []))
 

@@ -7,7 +7,7 @@ use Rattle.model.specs.Jobs.{Job}
 use Rattle.format.specs.Phrase.{Bell, Note, Phrase, transposed, find}
 
 abbrev pub noBell : Bell
-noBell = record { written = 0; transposition = 0; leastExecution = 0; mostExecution = 0; priority = 0 }
+noBell = record { written = 0; transposition = 0; leastExecution = 0; mostExecution = 0; rest = 0; priority = 0 }
 
 abbrev pub noNote : Note
 noNote = record { key = 0; earliestRelease = 0; latestRelease = 0; deadline = 0; listed = [] }
@@ -29,7 +29,7 @@ orFirst none = 0
 abbrev pub struck : ℕ → List Bell → Note → ℕ
 struck shift bells n = orFirst (find (n .key) shift bells)
 
--- the job (stroke) of a note that strikes a bell, which gives its execution-time range and its priority
+-- the job (stroke) of a note that strikes a bell, which gives its execution-time range, its rest and its priority
 abbrev pub jobOn : ℕ → Bell → Note → Job
 jobOn i b n =
     record {
@@ -40,6 +40,7 @@ jobOn i b n =
       deadline = n .deadline;
       priority = b .priority;
       bell = i;
+      rest = b .rest;
       listed = n .listed;
     }
 

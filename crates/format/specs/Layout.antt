@@ -7,24 +7,29 @@ use lib.ListN.{length, getD, replicate}
 use Rattle.model.specs.Limits.{mostJobs}
 use Rattle.format.specs.Bytes.{within}
 
--- The widths of the shift, of the number of notes (K) and of a number that a note lists; and the most notes. A field of width 0 is not in the file: it is
--- read as 0, and only 0 fits it.
+-- The widths of the shift, of a bell's rest, of the number of notes (K) and of a number that a note lists; and the most notes. A field of width 0 is not in
+-- the file: it is read as 0, and only 0 fits it.
 pub record Layout : Type 0 where
   pub shiftBytes : ℕ
+  pub restBytes : ℕ
   pub countBytes : ℕ
   pub listedBytes : ℕ
   pub mostNotes : ℕ
 
 abbrev pub first : Layout
-first = record { shiftBytes = 0; countBytes = 1; listedBytes = 1; mostNotes = mostJobs }
+first = record { shiftBytes = 0; restBytes = 0; countBytes = 1; listedBytes = 1; mostNotes = mostJobs }
 
 -- with a shift
 abbrev pub second : Layout
-second = record { shiftBytes = 1; countBytes = 1; listedBytes = 1; mostNotes = mostJobs }
+second = record { shiftBytes = 1; restBytes = 0; countBytes = 1; listedBytes = 1; mostNotes = mostJobs }
 
--- Versions 1 and 2.
+-- with a rest for each bell, too
+abbrev pub third : Layout
+third = record { shiftBytes = 1; restBytes = 2; countBytes = 1; listedBytes = 1; mostNotes = mostJobs }
+
+-- Versions 1 to 3.
 abbrev pub versions : List Layout
-versions = first ∷ second ∷ []
+versions = first ∷ second ∷ third ∷ []
 
 unfoldable pub isVersion : ℕ → Bool
 unfolding within
@@ -58,13 +63,13 @@ bellCountAt l = shiftAt + l .shiftBytes
 abbrev pub bellsAt : Layout → ℕ
 bellsAt l = shiftAt + l .shiftBytes + 1
 
--- ---- a bell: key written (N), transposition (T), least and most execution (ca, cb), priority (p)
+-- ---- a bell: key written (N), transposition (T), least and most execution (ca, cb), rest, priority (p)
 
 abbrev pub bellWidths : Layout → List ℕ
-bellWidths l = 1 ∷ 1 ∷ 2 ∷ 2 ∷ 1 ∷ []
+bellWidths l = 1 ∷ 1 ∷ 2 ∷ 2 ∷ l .restBytes ∷ 1 ∷ []
 
 abbrev pub bellBytes : Layout → ℕ
-bellBytes l = 7
+bellBytes l = 7 + l .restBytes
 
 abbrev pub mostBells : ℕ
 mostBells = 96
@@ -105,4 +110,4 @@ mostBytes l = noteCountAt l mostBells + l .countBytes + l .mostNotes * (1 + note
 
 -- no phrase of any version has a longer file
 abbrev pub longestFile : ℕ
-longestFile = 1833
+longestFile = 2025

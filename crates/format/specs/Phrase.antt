@@ -5,13 +5,14 @@ use mathlib.Core.List.{List, [], _∷_}
 use mathlib.Core.Option.{Option, none, some}
 use lib.Dec.{ltb, eqb}
 
--- A bell: the key written (N), the transposition (T) as a signed byte, so 232 to 255 are -24 to -1, and the execution-time range (hold range: ca, cb)
--- and priority (rank: p) that it gives to its jobs.
+-- A bell: the key written (N), the transposition (T) as a signed byte, so 232 to 255 are -24 to -1, and the execution-time range (hold range: ca, cb), the
+-- rest between two jobs and the priority (rank: p) that it gives to its jobs. The rest is 0 in a version without it.
 pub record Bell : Type 0 where
   pub written : ℕ
   pub transposition : ℕ
   pub leastExecution : ℕ
   pub mostExecution : ℕ
+  pub rest : ℕ
   pub priority : ℕ
 
 -- A note: its key as written, release range (call range: ra, rb), deadline (due time: d), and the jobs that it lists to wait for.

@@ -22,7 +22,8 @@ bellOf fields =
       transposition = getD fields 1 0;
       leastExecution = getD fields 2 0;
       mostExecution = getD fields 3 0;
-      priority = getD fields 4 0;
+      rest = getD fields 4 0;
+      priority = getD fields 5 0;
     }
 
 unfoldable pub bellIn : Layout → List ℕ → Bell
@@ -34,7 +35,7 @@ unfoldable pub bellRecord : Layout → List Bell → ℕ → List ℕ → Outcom
 unfolding bellIn bellRules
 bellRecord l before at p = do
   require (leb (bellBytes l) (length p)) wrongEnd at
-  bellRules before at (bellIn l p)
+  bellRules l before at (bellIn l p)
 
 -- the note of the fields of its record, the first of which is its length
 abbrev pub noteOf : List ℕ → Note

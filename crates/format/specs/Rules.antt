@@ -4,7 +4,7 @@ use mathlib.Core.Bool.{Bool, true, _&&_, _||_}
 use mathlib.Core.List.{List, [], _∷_, _++_}
 use lib.Dec.{leb, ltb}
 use lib.ListN.{length}
-use Rattle.model.specs.Limits.{mostCores, longestExecution, latestTime}
+use Rattle.model.specs.Limits.{mostCores, longestExecution, longestRest, latestTime}
 use Rattle.model.specs.Refusals.{wrongVersion, wrongCores, wrongBellCount, wrongBell, doubledKey, tooManyNotes, wrongNoteLength, silentKey, wrongTimes, wrongListed, wrongShift}
 use Rattle.format.specs.Bytes.{fits, within}
 use Rattle.format.specs.Layout.{Layout, isVersion, layout, coresAt, shiftAt, bellCountAt, bellsAt, bellBytes, noteCountAt, mostBells, mostListed, noteLength}
@@ -37,19 +37,23 @@ isShift l t = isTransposition t && fits (l .shiftBytes) t
 unfoldable pub isExecutionRange : ℕ → ℕ → Bool
 isExecutionRange least most = leb 1 least && (leb least most && leb most longestExecution)
 
-unfoldable pub bellInRange : Bell → Bool
-unfolding within isTransposition sounding isExecutionRange
-bellInRange b =
+-- the rest of a bell: 0 where the version has none
+unfoldable pub isRest : Layout → ℕ → Bool
+isRest l r = leb r longestRest && fits (l .restBytes) r
+
+unfoldable pub bellInRange : Layout → Bell → Bool
+unfolding within isTransposition sounding isExecutionRange isRest
+bellInRange l b =
     within lowestKey highestKey (b .written)
     && (isTransposition (b .transposition)
     && (within lowestKey highestKey (sounding b)
-    && (isExecutionRange (b .leastExecution) (b .mostExecution) && fits 1 (b .priority))))
+    && (isExecutionRange (b .leastExecution) (b .mostExecution) && (isRest l (b .rest) && fits 1 (b .priority)))))
 
 -- a bell at its place, after those before it
-unfoldable pub bellRules : List Bell → ℕ → Bell → Outcome Bell
+unfoldable pub bellRules : Layout → List Bell → ℕ → Bell → Outcome Bell
 unfolding bellInRange findFrom
-bellRules before at b = do
-  require (bellInRange b) wrongBell at
+bellRules l before at b = do
+  require (bellInRange l b) wrongBell at
   require (isNone (findSounding (sounding b) before)) doubledKey at
   ok b
 
@@ -80,7 +84,7 @@ unfoldable pub bellsRules : Layout → List Bell → ℕ → List Bell → Outco
 unfolding bellRules
 bellsRules l [] at before = ok before
 bellsRules l (b ∷ bs) at before = do
-  c ← bellRules before at b
+  c ← bellRules l before at b
   bellsRules l bs (at + bellBytes l) (before ++ c ∷ [])
 
 -- these notes, from a place on, after those before

@@ -1,5 +1,5 @@
 -- What is heard of a phrase, and a phrase written with a shift so that the same is heard. Assumes nothing.
-use Prim.Native.Nat.{ℕ, _-_, _%_, _≤_, _<_}
+use Prim.Native.Nat.{ℕ, _-_, _%_, max, _≤_, _<_}
 use mathlib.Core.List.{List, map}
 use Rattle.format.specs.Phrase.{Note, Phrase, transposed}
 use Rattle.format.specs.Fits.{All}
@@ -25,11 +25,11 @@ heard x = map (moved (x .shift)) (x .notes)
 abbrev pub opposite : ℕ → ℕ
 opposite t = (256 - t) % 256
 
--- The phrase of version 2 with a shift, every key as written moved the other way, and all else the same.
+-- The phrase with a shift, every key as written moved the other way, and all else the same; of version 2 where its own has no shift.
 abbrev pub shiftedBy : ℕ → Phrase → Phrase
 shiftedBy t x =
     record {
-      version = 2;
+      version = max 2 (x .version);
       cores = x .cores;
       shift = t;
       bells = x .bells;

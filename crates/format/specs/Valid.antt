@@ -16,8 +16,8 @@ Each P before [] = Unit {0}
 Each P before (x ∷ xs) = P before x × Each P (before ++ x ∷ []) xs
 
 -- A bell after those before it: its fields are in range, and no bell before sounds for its key.
-pub record ValidBell (before : List Bell) (b : Bell) : Type 0 where
-  pub inRange : bellInRange b ≡ true
+pub record ValidBell (l : Layout) (before : List Bell) (b : Bell) : Type 0 where
+  pub inRange : bellInRange l b ≡ true
   pub alone : findSounding (sounding b) before ≡ none
 
 -- A note after those before it, under a shift: a bell sounds for its key so moved, its times are right, and it lists at most four numbers, strictly rising, below its own.
@@ -31,7 +31,7 @@ pub record ValidBy (l : Layout) (x : Phrase) : Type 0 where
   pub cores : (1 ≤ x .cores) × (x .cores ≤ mostCores)
   pub shift : isShift l (x .shift) ≡ true
   pub bellCount : (1 ≤ length (x .bells)) × (length (x .bells) ≤ mostBells)
-  pub bells : Each ValidBell [] (x .bells)
+  pub bells : Each (ValidBell l) [] (x .bells)
   pub noteCount : length (x .notes) ≤ l .mostNotes
   pub notes : Each (ValidNote (x .shift) (x .bells)) [] (x .notes)
 

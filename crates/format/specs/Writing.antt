@@ -11,7 +11,7 @@ use Rattle.format.specs.Phrase.{Bell, Note, Phrase}
 use Rattle.format.specs.Rules.{rules}
 
 abbrev pub bellFields : Bell → List ℕ
-bellFields b = b .written ∷ b .transposition ∷ b .leastExecution ∷ b .mostExecution ∷ b .priority ∷ []
+bellFields b = b .written ∷ b .transposition ∷ b .leastExecution ∷ b .mostExecution ∷ b .rest ∷ b .priority ∷ []
 
 unfoldable pub bellFile : Layout → Bell → List ℕ
 unfolding fieldsFile

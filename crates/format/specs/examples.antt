@@ -1,7 +1,8 @@
--- Worked examples of the definitions: document 01's phrase P and its refusals, phrases wider than their bytes, phrases with a shift, notes that break more than one rule, jobs, lengths, what is valid, and what fits its bytes.
+-- Worked examples of the definitions: document 01's phrase P and its refusals, phrases wider than their bytes, phrases with a shift, bells with a rest, notes that break more than one rule, jobs, lengths, what is valid, and what fits its bytes.
 pub mod Files
 pub mod Phrases
 pub mod Shifts
+pub mod Rests
 pub mod Orders
 pub mod Shifting
 pub mod Jobs

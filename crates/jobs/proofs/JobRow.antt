@@ -5,12 +5,12 @@ use mathlib.Core.Bool.{true}
 use mathlib.Core.List.{List, [], _∷_, _++_}
 use native.Mathlib.Nat.{not-suc-le-zero, le-of-suc-le-suc, zero-add}
 use native.Mathlib.Omega.{arith}
-use lib.ListN.{getD, length, take, drop, replicate, length-append, length-drop, length-map, List·getD-append}
+use lib.ListN.{getD, length, take, drop, length-append, length-drop, length-map, List·getD-append}
 use lib.Seq.{length-take-le, getD-take, getD-drop, getD-append-add, ext-getD}
-use Rattle.model.specs.Limits.{mostJobs, longestExecution, latestTime}
+use Rattle.model.specs.Limits.{mostJobs, longestExecution, longestRest, latestTime}
 use Rattle.model.specs.Folds.{member}
 use Rattle.model.specs.Jobs.{Job, noJob, job, nearest, asList, predecessors}
-use Rattle.model.specs.internal.Bounds.{TimedUpTo}
+use Rattle.model.specs.internal.Bounds.{TimedUpTo, RestsUpTo}
 use Rattle.model.proofs.Folds.{member-here, member-there}
 use Rattle.words.specs.Tabulate.{tabulate}
 use Rattle.words.specs.Padded.{padded}
@@ -21,7 +21,7 @@ use Rattle.format.specs.Jobs.{jobOf, jobsOf}
 use Rattle.format.specs.Fits.{All}
 use Rattle.format.specs.internal.Analysable.{mostPredecessors, Analysable}
 use Rattle.rows.proofs.Records.{Wide, records-length, records-word}
-use Rattle.jobs.specs.internal.JobRow.{rowWords, besideWords, earliestReleaseAt, latestReleaseAt, leastExecutionAt, mostExecutionAt, deadlineAt, priorityAt, predecessorCountAt, predecessorsAt, jobBellAt, jobListedAt, jobRow, jobRows, word, jobAt, jobsOfRows, Rows, Setting}
+use Rattle.jobs.specs.internal.JobRow.{rowWords, earliestReleaseAt, latestReleaseAt, leastExecutionAt, mostExecutionAt, deadlineAt, priorityAt, predecessorCountAt, predecessorsAt, restAt, jobBellAt, jobListedAt, jobRow, jobRows, word, jobAt, jobsOfRows, Rows, Setting}
 use Rattle.jobs.specs.internal.JobTable.{jobTable}
 
 getD-member : (l : List ℕ) (j : ℕ) → j < length l → member (getD l j 0) l ≡ true
@@ -43,11 +43,8 @@ module _ (js : List Job) (i : ℕ) (few : length (predecessors js i) ≤ mostPre
   abbrev before : List ℕ
   before = padded mostPredecessors (predecessors js i)
 
-  abbrev beside : List ℕ
-  beside = replicate besideWords 0
-
   abbrev last : List ℕ
-  last = job js i .bell ∷ length (job js i .listed) ∷ 0 ∷ []
+  last = job js i .rest ∷ job js i .bell ∷ length (job js i .listed) ∷ 0 ∷ []
 
   room : length before ≡ mostPredecessors
   room = padded-length mostPredecessors (predecessors js i) few
@@ -55,25 +52,24 @@ module _ (js : List Job) (i : ℕ) (few : length (predecessors js i) ≤ mostPre
   -- The row of a job is as wide as every row.
   pub row-length : length (jobRow js i) ≡ rowWords
   unfolding jobRow
-  row-length = omega (arith, room, length-append before (beside ++ last))
+  row-length = omega (arith, room, length-append before last)
 
   row-predecessor : (j : ℕ) → j < length (predecessors js i) → getD (jobRow js i) (predecessorsAt + j) 0 ≡ getD (predecessors js i) j 0
   unfolding jobRow
   row-predecessor j h =
       sym (getD-drop predecessorsAt (jobRow js i) j 0)
-      ∙ List·getD-append before (beside ++ last) 0 j (omega (arith, room))
+      ∙ List·getD-append before last 0 j (omega (arith, room))
       ∙ List·getD-append (predecessors js i) _ 0 j h
 
-  row-last : (n : ℕ) → getD (jobRow js i) (jobBellAt + n) 0 ≡ getD last n 0
+  row-last : (n : ℕ) → getD (jobRow js i) (restAt + n) 0 ≡ getD last n 0
   unfolding jobRow
   row-last n =
-      let place : jobBellAt + n ≡ predecessorsAt + (mostPredecessors + (besideWords + n)) = omega arith in
-      let at : mostPredecessors + (besideWords + n) ≡ length before + (length beside + n) = omega (arith, room) in
+      let place : restAt + n ≡ predecessorsAt + (mostPredecessors + n) = omega arith in
+      let at : mostPredecessors + n ≡ length before + n = omega (arith, room) in
       ap (λ (m : ℕ). getD (jobRow js i) m 0) place
-      ∙ sym (getD-drop predecessorsAt (jobRow js i) (mostPredecessors + (besideWords + n)) 0)
-      ∙ ap (λ (m : ℕ). getD (before ++ (beside ++ last)) m 0) at
-      ∙ getD-append-add before (beside ++ last) (length beside + n) 0
-      ∙ getD-append-add beside last n 0
+      ∙ sym (getD-drop predecessorsAt (jobRow js i) (mostPredecessors + n) 0)
+      ∙ ap (λ (m : ℕ). getD (before ++ last) m 0) at
+      ∙ getD-append-add before last n 0
 
 -- ---- rows one after the other
 
@@ -129,7 +125,7 @@ module _ (js : List Job) (few : (i : ℕ) → i < length js → length (predeces
         (λ j h. predecessor-word j (omega (arith, count-of, h)))
 
     listed-count : word rows i jobListedAt ≡ length (job js i .listed)
-    listed-count = word-of jobListedAt (omega arith) ∙ row-last js i (few i b) 1
+    listed-count = word-of jobListedAt (omega arith) ∙ row-last js i (few i b) 2
 
     listed-of : take (word rows i jobListedAt) (drop (i * rowWords + predecessorsAt) rows) ≡ job js i .listed
     unfolding predecessors
@@ -149,7 +145,8 @@ module _ (js : List Job) (few : (i : ℕ) → i < length js → length (predeces
         let cb = word-of mostExecutionAt (omega arith) in
         let d = word-of deadlineAt (omega arith) in
         let p = word-of priorityAt (omega arith) in
-        let own = word-of jobBellAt (omega arith) ∙ row-last js i (few i b) 0 in
+        let rest = word-of restAt (omega arith) ∙ row-last js i (few i b) 0 in
+        let own = word-of jobBellAt (omega arith) ∙ row-last js i (few i b) 1 in
         λ n. record {
           earliestRelease = ra n;
           latestRelease = rb n;
@@ -158,6 +155,7 @@ module _ (js : List Job) (few : (i : ℕ) → i < length js → length (predeces
           deadline = d n;
           priority = p n;
           bell = own n;
+          rest = rest n;
           listed = listed-of n;
         }
 
@@ -193,6 +191,10 @@ timed x can =
       deadlines = λ i b. can .ranges i b .deadline;
     }
 
+-- None has a longer rest than the longest.
+pub rests : (x : Phrase) → Analysable x → RestsUpTo longestRest (jobsOf x)
+rests x can i b = can .ranges i b .rest
+
 module _ (x : Phrase) (can : Analysable x) (rows t : List ℕ) (e : rows ≡ jobTable x t) where
   abbrev js : List Job
   js = jobsOf x
@@ -220,5 +222,6 @@ module _ (x : Phrase) (can : Analysable x) (rows t : List ℕ) (e : rows ≡ job
         cores = can .cores .0;
         few-cores = can .cores .1;
         timed = rw phrase-jobs (timed x can);
+        rests = rw phrase-jobs (rests x can);
         executions = λ i b. ranges-of i (omega (arith, jobs-length x, b));
       }

@@ -22,7 +22,8 @@ pub length-jobs : (rows : List ℕ) (k : ℕ) → length (jobsOfRows rows k) ≡
 unfolding jobsOfRows
 length-jobs rows k = length-tabulate (jobAt rows) 0 k
 
-job-of : (rows : List ℕ) (k i : ℕ) → i < k → job (jobsOfRows rows k) i ≡ jobAt rows i
+-- A row holds its job.
+pub job-of : (rows : List ℕ) (k i : ℕ) → i < k → job (jobsOfRows rows k) i ≡ jobAt rows i
 unfolding jobsOfRows
 job-of rows k i h = getD-tabulate (jobAt rows) 0 k i noJob h ∙ ap (jobAt rows) (zero-add i)
 

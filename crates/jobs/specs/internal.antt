@@ -3,3 +3,4 @@ pub mod JobRow
 pub mod JobTable
 pub mod Fields
 pub mod Order
+pub mod Rests

@@ -11,14 +11,17 @@ ghost use Rattle.format.specs.internal.Analysable.{mostPredecessors};
 ghost use Rattle.jobs.specs.internal.JobRow.{rowWords, word, jobsOfRows, Rows};
 ghost use Rattle.jobs.specs.internal.Fields.{fieldCount, fieldAt};
 ghost use Rattle.jobs.specs.internal.Order.{precedence, places};
+ghost use Rattle.jobs.specs.internal.Rests.{lastRest};
 use crate::row::DEADLINE;
 use crate::row::EARLIEST_RELEASE;
 use crate::row::LATEST_RELEASE;
 use crate::row::LEAST_EXECUTION;
+use crate::row::LISTED_COUNT;
 use crate::row::MOST_EXECUTION;
 use crate::row::PREDECESSOR_COUNT;
 use crate::row::PREDECESSORS;
 use crate::row::PRIORITY;
+use crate::row::REST;
 use crate::row::ROW_WORDS;
 use model::limits::MOST_JOBS;
 
@@ -90,6 +93,22 @@ pub fn predecessor(rows: &[u32], k: usize, i: usize, j: usize) -> usize
     ensures { λ r. ⌜ (r ≡ getD (predecessors (jobsOfRows (now (rows .entry)) k) i) j 0) × (r < i) ⌝ }
 {
     word_at(rows, k, i, PREDECESSORS + j) as usize
+}
+
+// The rest of job i's wait for the last of its predecessors, where that is the nearest earlier job of its bell; 0 where there is none. It is there exactly if
+// the job has more predecessors than its note lists. Most bells have no rest: one word tells that.
+pub fn last_rest(rows: &[u32], k: usize, i: usize) -> u32
+    requires { ⌜ (i < k) × Rows (now rows) k ⌝ }
+    ensures { λ r. ⌜ r ≡ lastRest (jobsOfRows (now (rows .entry)) k) i ⌝ }
+{
+    let rest = word_at(rows, k, i, REST);
+    if rest == 0 {
+        return 0;
+    }
+    if word_at(rows, k, i, PREDECESSOR_COUNT) == word_at(rows, k, i, LISTED_COUNT) {
+        return 0;
+    }
+    rest
 }
 
 // Whether job w is a predecessor of job i.

@@ -19,8 +19,8 @@ pub const PREDECESSOR_COUNT: usize = 6;
 
 pub const PREDECESSORS: usize = 7;
 
-// A word for what is between the two jobs of a bell, which is zero.
-pub const BESIDE: usize = 12;
+// The rest of its bell.
+pub const REST: usize = 12;
 
 pub const BELL: usize = 13;
 

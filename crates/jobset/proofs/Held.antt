@@ -22,13 +22,13 @@ use Rattle.format.specs.Layout.{mostBells, mostListed}
 use Rattle.format.specs.Phrase.{Bell, Note}
 use Rattle.format.specs.Jobs.{noBell, noNote, note, struck, jobOf, jobsOf}
 use Rattle.format.specs.internal.Analysable.{mostPredecessors}
-use Rattle.rows.specs.BellRow.{bellWords, leastExecutionWord, mostExecutionWord, priorityWord, bellRow}
+use Rattle.rows.specs.BellRow.{bellWords, leastExecutionWord, mostExecutionWord, priorityWord, restWord, bellRow}
 use Rattle.rows.specs.NoteRow.{noteWords, earliestReleaseWord, latestReleaseWord, deadlineWord, listedCountWord, listedWord, struckWord, noteRowOn, noteRow}
 use Rattle.rows.specs.PhraseTable.{noteCountWord, bellRowsAt, noteRowsAt, phraseOf}
 use Rattle.rows.specs.internal.Handed.{HandedOn}
 use Rattle.rows.proofs.Records.{records-snoc}
 use Rattle.rows.proofs.PhraseTable.{few-bells, few-notes, few-listed, struck-below, header-word, bell-word, note-word, phrase-of}
-use Rattle.jobs.specs.internal.JobRow.{rowWords, earliestReleaseAt, predecessorCountAt, besideAt, jobRow, jobRows}
+use Rattle.jobs.specs.internal.JobRow.{rowWords, earliestReleaseAt, predecessorCountAt, restAt, jobRow, jobRows}
 use Rattle.jobs.specs.internal.Fields.{fields}
 use Rattle.jobset.specs.internal.Making.{jobsHeld, foundOf, optionOf, predecessorWords, originWords}
 use Rattle.jobs.proofs.JobRow.{row-length, rows-length}
@@ -196,6 +196,11 @@ module _ (t : List ℕ) (handed : HandedOn t) where
     unfolding bellRow
     priority-word = in-bell priorityWord (omega arith) ∙ ap (λ (j : Job). j .priority) (sym is-job)
 
+    -- It gives the rest.
+    pub rest-word : getD t (bellRowsAt + (job (jobsHeld t) i .bell * bellWords + restWord)) 0 ≡ job (jobsHeld t) i .rest
+    unfolding bellRow
+    rest-word = in-bell restWord (omega arith) ∙ ap (λ (j : Job). j .rest) (sym is-job)
+
     -- A note lists few jobs.
     pub few-listed-jobs : length (job (jobsHeld t) i .listed) ≤ mostListed
     few-listed-jobs = omega (arith, few, ap (λ (j : Job). length (j .listed)) is-job)
@@ -217,13 +222,13 @@ predecessor-words l h =
 
 -- The three parts, each after the one before, are the row.
 pub row-made : (js : List Job) (i : ℕ) (r : List ℕ) → length (predecessors js i) ≤ mostPredecessors → length r ≡ rowWords
-    → placed (placed (placed r earliestReleaseAt (fields (job js i))) predecessorCountAt (predecessorWords (predecessors js i))) besideAt (originWords (job js i)) ≡ jobRow js i
+    → placed (placed (placed r earliestReleaseAt (fields (job js i))) predecessorCountAt (predecessorWords (predecessors js i))) restAt (originWords (job js i)) ≡ jobRow js i
 unfolding jobRow predecessorWords originWords
 row-made js i r h l =
     let five : length (padded mostPredecessors (predecessors js i)) ≡ mostPredecessors = padded-length mostPredecessors (predecessors js i) h in
-    ap (λ (s : List ℕ). placed s besideAt (originWords (job js i)))
+    ap (λ (s : List ℕ). placed s restAt (originWords (job js i)))
     (placed-append r earliestReleaseAt predecessorCountAt (fields (job js i)) (predecessorWords (predecessors js i)) (omega arith) refl)
-    ∙ placed-append r earliestReleaseAt besideAt (fields (job js i) ++ predecessorWords (predecessors js i)) (originWords (job js i)) (omega arith) (omega (arith, five))
+    ∙ placed-append r earliestReleaseAt restAt (fields (job js i) ++ predecessorWords (predecessors js i)) (originWords (job js i)) (omega arith) (omega (arith, five))
     ∙ placed-whole r (jobRow js i) (l ∙ sym (row-length js i h))
 
 -- ---- the rows, one after the other

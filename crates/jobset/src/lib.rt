@@ -10,12 +10,11 @@ ghost use Rattle.format.specs.Layout.{mostListed};
 ghost use Rattle.format.specs.internal.Analysable.{mostPredecessors};
 ghost use Rattle.rows.specs.PhraseTable.{phraseOf};
 ghost use Rattle.rows.specs.internal.Handed.{HandedOn};
-ghost use Rattle.jobs.specs.internal.JobRow.{rowWords, earliestReleaseAt, predecessorCountAt, besideAt, jobRow};
+ghost use Rattle.jobs.specs.internal.JobRow.{rowWords, earliestReleaseAt, predecessorCountAt, restAt, jobRow};
 ghost use Rattle.jobs.specs.internal.JobTable.{jobTable};
 ghost use Rattle.jobs.specs.internal.Fields.{fields};
 ghost use Rattle.jobset.specs.internal.Making.{jobsHeld, foundOf, optionOf, predecessorWords, originWords};
 use jobs::row::BELL;
-use jobs::row::BESIDE;
 use jobs::row::DEADLINE;
 use jobs::row::EARLIEST_RELEASE;
 use jobs::row::JOB_TABLE;
@@ -26,6 +25,7 @@ use jobs::row::MOST_EXECUTION;
 use jobs::row::PREDECESSOR_COUNT;
 use jobs::row::PREDECESSORS;
 use jobs::row::PRIORITY;
+use jobs::row::REST;
 use jobs::row::ROW_WORDS;
 use jobs::row::SPARE;
 use rows::NOTE_COUNT;
@@ -33,6 +33,7 @@ use rows::PHRASE_WORDS;
 use rows::bell::LEAST_EXECUTION as BELL_LEAST_EXECUTION;
 use rows::bell::MOST_EXECUTION as BELL_MOST_EXECUTION;
 use rows::bell::PRIORITY as BELL_PRIORITY;
+use rows::bell::REST as BELL_REST;
 use rows::bell_word;
 use rows::note::DEADLINE as NOTE_DEADLINE;
 use rows::note::EARLIEST_RELEASE as NOTE_EARLIEST_RELEASE;
@@ -131,13 +132,14 @@ fn write_predecessors(phrase: &[u32; PHRASE_WORDS], i: usize, row: &mut [u32])
     row[PREDECESSORS + 4] = predecessor_word(phrase, i, earlier, 4);
 }
 
-// What follows the predecessors: a zero, the bell of job i, how many its note lists, and a zero.
+// What follows the predecessors: the rest, the bell of job i, how many its note lists, and a zero.
 fn write_origin(phrase: &[u32; PHRASE_WORDS], i: usize, row: &mut [u32])
     requires { ⌜ HandedOn (now phrase) × (i < length (jobsHeld (now phrase))) × (length (now row) ≡ rowWords) ⌝ }
-    ensures { λ _. ⌜ now (row .exit) ≡ placed (now (row .entry)) besideAt (originWords (job (jobsHeld (now (phrase .entry))) i)) ⌝ }
+    ensures { λ _. ⌜ now (row .exit) ≡ placed (now (row .entry)) restAt (originWords (job (jobsHeld (now (phrase .entry))) i)) ⌝ }
 {
-    row[BESIDE] = 0;
-    row[BELL] = note_word(phrase, i, STRUCK);
+    let bell = note_word(phrase, i, STRUCK);
+    row[REST] = bell_word(phrase, bell as usize, BELL_REST);
+    row[BELL] = bell;
     row[LISTED_COUNT] = note_word(phrase, i, NOTE_LISTED_COUNT);
     row[SPARE] = 0;
 }

@@ -1,8 +1,8 @@
 -- Laws of the folds over lists and over the numbers below a bound. Assumes nothing.
 use Prim.Native.Nat.{ℕ, zero, suc, _+_, _*_, _≤_, _<_, min, max}
-use mathlib.Core.Path.{_≡_, refl, sym, ap, _∙_, subst}
+use mathlib.Core.Path.{_≡_, refl, sym, ap, ap₂, _∙_, subst}
 use mathlib.Core.Logic.{_⊎_, inl, inr, ⊎-elim}
-use mathlib.Core.Bool.{Bool, true, false, cond, true≢false, false≢true}
+use mathlib.Core.Bool.{Bool, true, false, _&&_, cond, true≢false, false≢true}
 use mathlib.Core.List.{List, [], _∷_, _++_}
 use native.Mathlib.Nat.{le-of-suc-le-suc, not-suc-le-zero}
 use native.Mathlib.Numerals.{lt-of-le-of-ne, add-one}
@@ -66,6 +66,12 @@ unfolding every
 every-in p [] h = refl
 every-in p (x ∷ xs) h = and-both (p x) (every p xs) (h x (member-here x xs)) (every-in p xs (λ w i. h w (member-there w x xs i)))
 
+-- tests that agree on each element agree on all
+pub every-same : (p q : ℕ → Bool) → ((w : ℕ) → p w ≡ q w) → (l : List ℕ) → every p l ≡ every q l
+unfolding every
+every-same p q h [] = refl
+every-same p q h (x ∷ xs) = ap₂ (λ (a b : Bool). a && b) (h x) (every-same p q h xs)
+
 -- ---- the largest
 
 -- the largest is within a bound that each is within
@@ -84,6 +90,18 @@ unfolding largest
 le-largest p f [] w i e = absurd (not-in-nil w i)
 le-largest p f (x ∷ xs) w i e =
     ⊎-elim (λ q. omega (arith, ap f q, ap (λ (c : Bool). cond c (f x) 0) (ap p (sym q) ∙ e))) (λ q. omega (arith, le-largest p f xs w q e)) (member-cases w x xs i)
+
+-- the largest is the same where tests and values are
+pub largest-same : (p q : ℕ → Bool) (f g : ℕ → ℕ) → ((w : ℕ) → p w ≡ q w) → ((w : ℕ) → f w ≡ g w) → (l : List ℕ) → largest p f l ≡ largest q g l
+unfolding largest
+largest-same p q f g h k [] = refl
+largest-same p q f g h k (x ∷ xs) = ap₂ max (ap₂ (λ (c : Bool) y. cond c y 0) (h x) (k x)) (largest-same p q f g h k xs)
+
+-- the largest of two lists joined is the larger of theirs
+pub largest-append : (p : ℕ → Bool) (f : ℕ → ℕ) (l r : List ℕ) → largest p f (l ++ r) ≡ max (largest p f l) (largest p f r)
+unfolding largest
+largest-append p f [] r = omega arith
+largest-append p f (x ∷ xs) r = omega (arith, largest-append p f xs r)
 
 -- each element by its number is at most the largest
 pub at-largest : {A : Type 0} (f : A → ℕ) (l : List A) (k : ℕ) (d : A) → f d ≡ 0 → f (getD l k d) ≤ largest all f l

@@ -7,10 +7,10 @@ use mathlib.Core.List.{List, map}
 use native.Mathlib.Omega.{arith}
 use lib.Dec.{ltb, leb}
 use lib.ListN.{getD, length, set, List·getD-map}
-use borrow.Author.Tests.{lt-ltb, le-ltb, ltb-false, leb-true, leb-false, le-leb, eq-eqb, ne-eqb, not-true}
+use borrow.Author.Tests.{lt-ltb, le-ltb, leb-true, leb-false, le-leb, eq-eqb, ne-eqb, not-true}
 use Rattle.model.specs.Folds.{ind, count, every, member}
-use Rattle.model.specs.Jobs.{Job, predecessors}
-use Rattle.model.specs.Dispatch.{Scenario, Status, waiting, running, done, status, isWaiting, isDone, finishesAt, finished, ready}
+use Rattle.model.specs.Jobs.{Job, predecessors, restOf}
+use Rattle.model.specs.Dispatch.{Scenario, Status, waiting, running, done, status, isWaiting, hasRested, finishesAt, finished, ready}
 use Rattle.model.specs.Guarantee.{statusAt}
 use Rattle.model.proofs.Booleans.{cases, and-left, and-right, and-both}
 use Rattle.model.proofs.Folds.{every-in, every-out, count-set}
@@ -43,6 +43,11 @@ runsPast t (ran a f) = ltb t f
 abbrev pub busy : ℕ → List Entry → ℕ
 busy t h = count (runsPast t) h
 
+-- it started, and at t has been done for r
+abbrev pub Rested : ℕ → ℕ → Entry → Type 0
+Rested t r unstarted = ⊥
+Rested t r (ran a f) = f + r ≤ t
+
 -- it started, and finishes by t
 abbrev pub Finished : ℕ → Entry → Type 0
 Finished t unstarted = ⊥
@@ -55,7 +60,7 @@ Begun t (ran a f) = (a ≤ t) × (a < f)
 
 -- ---- what a view shows
 
-pub view-begun : (t a f : ℕ) → a ≤ t → statusAt a f t ≡ cond (ltb t f) (running f) done
+pub view-begun : (t a f : ℕ) → a ≤ t → statusAt a f t ≡ cond (ltb t f) (running f) (done f)
 unfolding statusAt
 view-begun t a f h = rw (le-ltb t a h) refl
 
@@ -63,21 +68,38 @@ view-waiting : (t : ℕ) (e : Entry) → Begun t e → isWaiting (view t e) ≡ 
 view-waiting t unstarted b = refl
 view-waiting t (ran a f) b = rw (view-begun t a f (b .0)) (go (ltb t f))
   where
-    go : (c : Bool) → isWaiting (cond c (running f) done) ≡ false
+    go : (c : Bool) → isWaiting (cond c (running f) (done f)) ≡ false
     go true = refl
     go false = refl
 
-view-done : (t : ℕ) (e : Entry) → Begun t e → isDone (view t e) ≡ true → Finished t e
-view-done t unstarted b d = absurd (false≢true d)
-view-done t (ran a f) b d = go (ltb t f) refl (ap isDone (sym (view-begun t a f (b .0))) ∙ d)
+view-rested : (t r : ℕ) (e : Entry) → Begun t e → hasRested t r (view t e) ≡ true → Rested t r e
+view-rested t r unstarted b d = absurd (false≢true d)
+view-rested t r (ran a f) b d = go (ltb t f) (ap (hasRested t r) (sym (view-begun t a f (b .0))) ∙ d)
   where
-    go : (c : Bool) → ltb t f ≡ c → isDone (cond c (running f) done) ≡ true → f ≤ t
-    go true q e = absurd (false≢true e)
-    go false q e = ltb-false t f q
+    go : (c : Bool) → hasRested t r (cond c (running f) (done f)) ≡ true → f + r ≤ t
+    go true e = absurd (false≢true e)
+    go false e = leb-true (f + r) t e
 
-finished-done : (t : ℕ) (e : Entry) → Begun t e → Finished t e → isDone (view t e) ≡ true
-finished-done t unstarted b x = absurd x
-finished-done t (ran a f) b x = rw (view-begun t a f (b .0), le-ltb t f x) refl
+rested-view : (t r : ℕ) (e : Entry) → Begun t e → Rested t r e → hasRested t r (view t e) ≡ true
+rested-view t r unstarted b x = absurd x
+rested-view t r (ran a f) b x = rw (view-begun t a f (b .0), le-ltb t f (omega arith)) (le-leb (f + r) t x)
+
+-- ---- rests
+
+-- what has rested for a while has rested for less
+pub rested-less : (t r r′ : ℕ) (e : Entry) → r ≤ r′ → Rested t r′ e → Rested t r e
+rested-less t r r′ unstarted h x = x
+rested-less t r r′ (ran a f) h x = omega arith
+
+-- what has rested has started
+pub rested-started : (t r : ℕ) (x : Entry) → Rested t r x → hasStarted x ≡ true
+rested-started t r unstarted g = absurd g
+rested-started t r (ran a f) g = refl
+
+-- what has not started has not rested
+pub fresh-unrested : (u r : ℕ) (x : Entry) → hasStarted x ≡ false → Rested u r x → ⊥
+fresh-unrested u r unstarted e g = g
+fresh-unrested u r (ran a f) e g = true≢false e
 
 -- ---- from one moment to the next
 
@@ -99,18 +121,13 @@ view-passes t unstarted b = (refl, refl)
 view-passes t (ran a f) b = rw (view-begun t a f (b .0), view-begun (suc t) a f (omega (arith, b .0))) (go (finishes t f))
   where
     go : Finishes t f
-        → (finished (suc t) (cond (ltb t f) (running f) done) ≡ cond (ltb (suc t) f) (running f) done)
-        × (ind (finishesAt (suc t) (cond (ltb t f) (running f) done)) + ind (ltb (suc t) f) ≡ ind (ltb t f))
+        → (finished (suc t) (cond (ltb t f) (running f) (done f)) ≡ cond (ltb (suc t) f) (running f) (done f))
+        × (ind (finishesAt (suc t) (cond (ltb t f) (running f) (done f))) + ind (ltb (suc t) f) ≡ ind (ltb t f))
     go (inl h) = rw (le-ltb t f h, le-ltb (suc t) f (omega arith)) (refl, refl)
     go (inr (inl h)) = rw (lt-ltb t f (omega arith), le-ltb (suc t) f (omega arith), eq-eqb f (suc t) h) (refl, refl)
     go (inr (inr h)) = rw (lt-ltb t f (omega arith), lt-ltb (suc t) f h, ne-eqb f (suc t) (λ e. omega arith)) (refl, refl)
 
 -- ---- a start
-
--- what has not started has not finished
-pub fresh-unfinished : (u : ℕ) (x : Entry) → hasStarted x ≡ false → Finished u x → ⊥
-fresh-unfinished u unstarted e f = f
-fresh-unfinished u (ran a b) e f = true≢false e
 
 -- what has finished has started
 pub finished-started : (t : ℕ) (x : Entry) → Finished t x → hasStarted x ≡ true
@@ -132,11 +149,11 @@ busy-start u h i a f b e = omega (arith, count-set (runsPast u) h i (ran a f) un
 
 -- ---- readiness
 
--- the job has not started, was released by t, and its predecessors have finished by t
+-- the job has not started, was released by t, and at t its predecessors have been done for as long as it asks of each
 pub record Ready (js : List Job) (s : Scenario) (t : ℕ) (h : List Entry) (i : ℕ) : Type 0 where
   pub fresh : hasStarted (entry h i) ≡ false
   pub released : s .release i ≤ t
-  pub served : (w : ℕ) → member w (predecessors js i) ≡ true → Finished t (entry h w)
+  pub served : (w : ℕ) → member w (predecessors js i) ≡ true → Rested t (restOf js i w) (entry h w)
 
 -- before p, no core was free while a job was ready
 abbrev pub Idle : List Job → ℕ → Scenario → ℕ → List Entry → Type 0
@@ -153,18 +170,19 @@ module _ (js : List Job) (s : Scenario) (t : ℕ) (h : List Entry) (begun : (k :
   waits = isWaiting (status statuses i)
 
   abbrev isServed : Bool
-  isServed = every (λ w. isDone (status statuses w)) (predecessors js i)
+  isServed = every (λ w. hasRested t (restOf js i w) (status statuses w)) (predecessors js i)
 
   -- a job that is ready in the view is ready in the history
   pub ready-out : ready js s t (map (view t) h) i ≡ true → Ready js s t h i
   unfolding ready
   ready-out e =
-      let rest = and-right waits (leb (s .release i) t && isServed) e in
+      let both = and-right waits (leb (s .release i) t && isServed) e in
       record {
         fresh = not-true (hasStarted (entry h i)) (sym (view-waiting t (entry h i) (begun i)) ∙ ap isWaiting (sym (look i)) ∙ and-left waits (leb (s .release i) t && isServed) e);
-        released = leb-true (s .release i) t (and-left (leb (s .release i) t) isServed rest);
-        served = λ w q. view-done t (entry h w) (begun w)
-            (ap isDone (sym (look w)) ∙ every-out (λ w. isDone (status statuses w)) (predecessors js i) (and-right (leb (s .release i) t) isServed rest) w q);
+        released = leb-true (s .release i) t (and-left (leb (s .release i) t) isServed both);
+        served = λ w q. view-rested t (restOf js i w) (entry h w) (begun w)
+            (ap (hasRested t (restOf js i w)) (sym (look w))
+            ∙ every-out (λ w. hasRested t (restOf js i w) (status statuses w)) (predecessors js i) (and-right (leb (s .release i) t) isServed both) w q);
       }
 
   -- and a job that is ready in the history is so in the view
@@ -173,4 +191,5 @@ module _ (js : List Job) (s : Scenario) (t : ℕ) (h : List Entry) (begun : (k :
   ready-in r =
       and-both waits (leb (s .release i) t && isServed) (ap isWaiting (look i) ∙ view-waiting t (entry h i) (begun i) ∙ ap not (r .fresh))
       (and-both (leb (s .release i) t) isServed (le-leb (s .release i) t (r .released))
-      (every-in (λ w. isDone (status statuses w)) (predecessors js i) (λ w q. ap isDone (look w) ∙ finished-done t (entry h w) (begun w) (r .served w q))))
+      (every-in (λ w. hasRested t (restOf js i w) (status statuses w)) (predecessors js i)
+      (λ w q. ap (hasRested t (restOf js i w)) (look w) ∙ rested-view t (restOf js i w) (entry h w) (begun w) (r .served w q))))

@@ -12,10 +12,12 @@ pub mod Starts
 pub mod Run
 pub mod Covering
 pub mod Predecessors
+pub mod Rests
 pub mod Progress
 pub mod Whole
 pub mod Soundness
 pub mod Following
+pub mod Unrested
 pub mod Example
 pub mod Sorted
 pub mod Bounds

@@ -13,21 +13,23 @@ use lib.ListN.{getD, length, set, replicate, length-replicate, length-set}
 use lib.Seq.{map-set-same}
 use borrow.Author.Tests.{lt-ltb, le-ltb}
 use Rattle.model.specs.Folds.{ind, count, member}
-use Rattle.model.specs.Jobs.{Job, predecessors, before}
+use Rattle.model.specs.Jobs.{Job, predecessors, restOf, before}
 use Rattle.model.specs.Dispatch.{Scenario, Status, waiting, running, Moment, finishesAt, finished, ready, firstOf, ifSome, fill, steps, run}
 use Rattle.model.specs.Guarantee.{WellFormed, Admissible, statusAt}
 use Rattle.model.proofs.Folds.{count-none, set-each, getD-same, below-suc}
 use Rattle.model.proofs.Priority.{First, first-of}
-use Rattle.model.proofs.History.{Entry, unstarted, ran, entry, hasStarted, view, runsPast, busy, Finished, Begun, view-passes, fresh-unfinished, fresh-waiting, busy-start, Ready, ready-out, ready-in, Idle}
+use Rattle.model.proofs.History.{Entry, unstarted, ran, entry, hasStarted, view, runsPast, busy, Rested, Begun, view-passes, fresh-unrested, fresh-waiting, busy-start, Ready, ready-out, ready-in, Idle}
 
 -- ---- lists
 
-map-set : {A B : Type 0} (f : A → B) (l : List A) (i : ℕ) (a : A) → map f (set l i a) ≡ set (map f l) i (f a)
+-- what is set in the list is set in its image
+pub map-set : {A B : Type 0} (f : A → B) (l : List A) (i : ℕ) (a : A) → map f (set l i a) ≡ set (map f l) i (f a)
 map-set f [] i a = refl
 map-set f (x ∷ xs) zero a = refl
 map-set f (x ∷ xs) (suc i) a = ap (λ r. f x ∷ r) (map-set f xs i a)
 
-map-replicate : {A B : Type 0} (f : A → B) (n : ℕ) (a : A) → map f (replicate n a) ≡ replicate n (f a)
+-- the image of one thing many times is many times its image
+pub map-replicate : {A B : Type 0} (f : A → B) (n : ℕ) (a : A) → map f (replicate n a) ≡ replicate n (f a)
 map-replicate f zero a = refl
 map-replicate f (suc n) a = ap (λ r. f a ∷ r) (map-replicate f n a)
 
@@ -90,10 +92,10 @@ module _ (js : List Job) (m : ℕ) (s : Scenario) where
   EntryRan k unstarted = Unit {0}
   EntryRan k (ran a f) = RanOnce k a f
 
-  -- the predecessors of a started job had finished by its start
+  -- by the start of a job its predecessors had been done for as long as it asks of each
   abbrev pub Served : List Entry → ℕ → Entry → Type 0
   Served h k unstarted = Unit {0}
-  Served h k (ran a f) = (w : ℕ) → member w (predecessors js k) ≡ true → Finished a (entry h w)
+  Served h k (ran a f) = (w : ℕ) → member w (predecessors js k) ≡ true → Rested a (restOf js k w) (entry h w)
 
   -- at t, where no core was idle before p
   pub record Inv (p t : ℕ) (h : List Entry) : Type 0 where
@@ -162,12 +164,13 @@ module _ (js : List Job) (m : ℕ) (s : Scenario) where
           record {
             fresh = set-each (λ k x. hasStarted x ≡ false → hasStarted (entry h k) ≡ false) h i (ran t f) unstarted in-history (λ k e. e) (λ e. absurd (true≢false e)) j (r .fresh);
             released = r .released;
-            served = λ w q. set-each (λ k x. Finished u x → Finished u (entry h k)) h i (ran t f) unstarted in-history (λ k e. e) (λ e. absurd (omega arith)) w (r .served w q);
+            served = λ w q. set-each (λ k x. Rested u (restOf js j w) x → Rested u (restOf js j w) (entry h k)) h i (ran t f) unstarted in-history (λ k e. e)
+                (λ e. absurd (omega arith)) w (r .served w q);
           }
 
-      still-finished : (u w : ℕ) → Finished u (entry h w) → Finished u (entry new w)
-      still-finished u =
-          set-each (λ k x. Finished u (entry h k) → Finished u x) h i (ran t f) unstarted in-history (λ k e. e) (λ e. absurd (fresh-unfinished u (entry h i) (is .fresh) e))
+      still-rested : (u r w : ℕ) → Rested u r (entry h w) → Rested u r (entry new w)
+      still-rested u r =
+          set-each (λ k x. Rested u r (entry h k) → Rested u r x) h i (ran t f) unstarted in-history (λ k e. e) (λ e. absurd (fresh-unrested u r (entry h i) (is .fresh) e))
 
       busy-new : (u : ℕ) → busy u new ≡ busy u h + ind (ltb u f)
       busy-new u = busy-start u h i t f in-history (is .fresh)
@@ -179,12 +182,12 @@ module _ (js : List Job) (m : ℕ) (s : Scenario) where
             begun = set-each (λ k x. Begun t x) h i (ran t f) unstarted in-history (inv .begun) (omega arith, takes-time);
             idle = λ u l j b r. omega (arith, busy-new u, inv .idle u l j b (ready-back u j l r));
             entries = set-each EntryRan h i (ran t f) unstarted in-history (inv .entries) (record { released = is .released; executed = refl });
-            served = set-each (Served new) h i (ran t f) unstarted in-history (λ k. on k (entry h k) (inv .served k)) (λ w q. still-finished t w (is .served w q));
+            served = set-each (Served new) h i (ran t f) unstarted in-history (λ k. on k (entry h k) (inv .served k)) (λ w q. still-rested t (restOf js i w) w (is .served w q));
           }
         where
           on : (k : ℕ) (x : Entry) → Served h k x → Served new k x
           on k unstarted g = tt
-          on k (ran a b) g = λ w q. still-finished a w (g w q)
+          on k (ran a b) g = λ w q. still-rested a (restOf js k w) w (g w q)
 
       shows-start : set (map (view t) h) i (running f) ≡ map (view t) new
       shows-start = ap (λ x. set (map (view t) h) i x) (sym (starts-now t f takes-time)) ∙ sym (map-set (view t) h i (ran t f))

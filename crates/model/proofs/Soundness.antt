@@ -40,7 +40,7 @@ module _ (js : List Job) (m : ℕ) (s : Scenario) (bounds : List Range) (levels 
           rw (entry-is js m s wf adm (horizon js s) (x .0) (x .1) k l (has-started js m s wf adm (horizon js s) (x .0) (x .1) k l (omega (arith, whole .over k l, whole .executed k l))))
           at (x .2 .in-bounds k)
 
-  quiet : (t : ℕ) → largest all latest bounds ≤ t → (k : ℕ) → k < length js → status (run js m s t .statuses) k ≡ done
+  quiet : (t : ℕ) → largest all latest bounds ≤ t → (k : ℕ) → k < length js → status (run js m s t .statuses) k ≡ done (finishes k)
   unfolding statusAt
   quiet t l k r = whole .once k r t ∙ rw (le-ltb t (starts k) (omega (arith, whole .executed k r, in-time)), le-ltb t (finishes k) in-time) refl
     where
@@ -62,6 +62,7 @@ module _ (js : List Job) (m : ℕ) (s : Scenario) (bounds : List Range) (levels 
         bounded = λ k l. finish-kept k l .0;
         timely = λ k l. finish-kept k l .1;
         apart = whole .apart;
+        rested = whole .rested;
         quiet = quiet;
       }
 

@@ -11,17 +11,17 @@ use lib.ListN.{getD, length, set}
 use lib.Seq.{getD-set-same, getD-set-other}
 use borrow.Author.Tests.{leb-true, leb-false, le-leb, lt-ltb, le-ltb, not-true}
 use Rattle.model.specs.Folds.{ind, every, member, all, Limit, infinite, finite, smallest}
-use Rattle.model.specs.Jobs.{Job, job, predecessors, before}
+use Rattle.model.specs.Jobs.{Job, job, predecessors, restOf, before}
 use Rattle.model.specs.Dispatch.{Scenario}
 use Rattle.model.specs.States.{Range, empty, range, isRange, earliest, latest, State, finishOf, started, first}
-use Rattle.model.specs.Edges.{orZero, isBelow, lastBelow, candidate, possiblyReady, certainlyReady, earliestStart, workConservingBound, certainlyReadyBeside, higherPriorityBound, eligible, latestStart, earliestFinish, latestFinish, availability, successor}
+use Rattle.model.specs.Edges.{orZero, isBelow, lastBelow, candidate, possiblyReady, certainlyReady, earliestStart, workConservingBound, restedWith, certainlyReadyBeside, higherPriorityBound, eligible, latestStart, earliestFinish, latestFinish, availability, successor}
 use Rattle.model.specs.Guarantee.{Admissible}
 use Rattle.model.proofs.Booleans.{cases, and-left, and-right, and-both, ind-le}
 use Rattle.model.proofs.Folds.{every-in, every-out, largest-le, le-largest, Attained, smallest-attained, IsFinite, smallest-finite, count-mono}
 use Rattle.model.proofs.Availability.{countUpTo, Weighs, weighs, weighs-one, weighs-none, availability-from, availability-before, count-first}
 use Rattle.model.proofs.Enclosure.{Wider, Encloses, Shaped}
 use Rattle.model.proofs.Induction.{finishRange}
-use Rattle.model.proofs.History.{Entry, unstarted, ran, entry, hasStarted, runsPast, busy, Finished, finished-started, busy-start, Ready, Idle}
+use Rattle.model.proofs.History.{Entry, unstarted, ran, entry, hasStarted, runsPast, busy, Rested, rested-less, rested-started, busy-start, Ready, Idle}
 
 -- ---- the relation
 
@@ -46,15 +46,16 @@ fits-wider (range a b) empty x w h = absurd w
 fits-wider (range a b) (range e f) unstarted w h = h
 fits-wider (range a b) (range e f) (ran start x) w h = omega arith
 
-fits-finished : (u : ℕ) (a : Range) (x : Entry) → Fits a x → isRange a ≡ true → latest a ≤ u → Finished u x
-fits-finished u empty x h e l = absurd (false≢true e)
-fits-finished u (range a b) unstarted h e l = h
-fits-finished u (range a b) (ran start f) h e l = omega arith
+fits-rested : (u r : ℕ) (a : Range) (x : Entry) → Fits a x → isRange a ≡ true → latest a + r ≤ u → Rested u r x
+fits-rested u r empty x h e l = absurd (false≢true e)
+fits-rested u r (range a b) unstarted h e l = h
+fits-rested u r (range a b) (ran start f) h e l = omega arith
 
-finished-earliest : (u : ℕ) (a : Range) (x : Entry) → Fits a x → Finished u x → earliest a ≤ u
-finished-earliest u empty x h l = omega arith
-finished-earliest u (range a b) unstarted h l = absurd h
-finished-earliest u (range a b) (ran start f) h l = omega arith
+rested-earliest : (u r : ℕ) (a : Range) (x : Entry) → Fits a x → Rested u r x → earliest a + r ≤ u
+rested-earliest u r empty unstarted h l = absurd l
+rested-earliest u r empty (ran start f) h l = absurd h
+rested-earliest u r (range a b) unstarted h l = absurd h
+rested-earliest u r (range a b) (ran start f) h l = omega arith
 
 -- The state covers the run at t: from t on every core is possibly free or busy, and where a core is certainly free, all that are certainly free
 -- and all busy ones are at most m.
@@ -95,10 +96,18 @@ candidate-out js σ i e = (
   every-out (started σ) (predecessors js i) (and-right (not (started σ i)) (every (started σ) (predecessors js i)) e),
 )
 
+-- what has rested with i is one of i's predecessors, for which i asks no less than j
+rested-with : (js : List Job) (i j w : ℕ) → restedWith js i j w ≡ true → (member w (predecessors js i) ≡ true) × (restOf js j w ≤ restOf js i w)
+unfolding restedWith
+rested-with js i j w e = (
+  and-left (member w (predecessors js i)) (leb (restOf js j w) (restOf js i w)) e,
+  leb-true (restOf js j w) (restOf js i w) (and-right (member w (predecessors js i)) (leb (restOf js j w) (restOf js i w)) e),
+)
+
 module _ (js : List Job) (m : ℕ) (s : Scenario) (admissible : Admissible js s) (σ : State) (t : ℕ) (h : List Entry) (covers : Covers m σ t h) where
-  -- a candidate whose latest release is past, and whose predecessors have finished, is ready
+  -- a candidate whose latest release is past, and whose predecessors have rested, is ready
   candidate-ready : (j u : ℕ) → j < length js → candidate js σ j ≡ true → job js j .latestRelease ≤ u
-      → ((w : ℕ) → member w (predecessors js j) ≡ true → started σ w ≡ true → Finished u (entry h w)) → Ready js s u h j
+      → ((w : ℕ) → member w (predecessors js j) ≡ true → started σ w ≡ true → Rested u (restOf js j w) (entry h w)) → Ready js s u h j
   candidate-ready j u b c l f =
       record {
         fresh = sym (fits-started (finishOf σ j) (entry h j) (covers .finishes j)) ∙ candidate-out js σ j c .0;
@@ -119,8 +128,8 @@ module _ (js : List Job) (m : ℕ) (s : Scenario) (admissible : Admissible js s)
           let u : ℕ = max (first (σ .certainlyFree)) x in
           let free : 1 ≤ countUpTo u (σ .certainlyFree) = omega (arith, count-first u m (σ .certainlyFree) cores (shaped .certainly), weighs-one (first (σ .certainlyFree)) u (omega arith)) in
           let ready = candidate-ready (a .0) u (a .1) (a .2) (omega (arith, a .3))
-          (λ w q e. fits-finished u (finishOf σ w) (entry h w) (covers .finishes w) e
-          (omega (arith, a .3, le-largest all (λ v. latest (finishOf σ v)) (predecessors js (a .0)) w q refl)))
+          (λ w q e. fits-rested u (restOf js (a .0) w) (finishOf σ w) (entry h w) (covers .finishes w) e
+          (omega (arith, a .3, le-largest all (λ v. latest (finishOf σ v) + restOf js (a .0) v) (predecessors js (a .0)) w q refl)))
           in omega (arith, covers .certainly u free, idle u l (a .0) (a .1) ready)
 
   -- ---- job i starts at t: it is ready, a core is free, and no ready job goes before it
@@ -131,7 +140,7 @@ module _ (js : List Job) (m : ℕ) (s : Scenario) (admissible : Admissible js s)
     ready-candidate =
         candidate-in js σ i (
           fits-started (finishOf σ i) (entry h i) (covers .finishes i) ∙ is .fresh,
-          λ w q. fits-started (finishOf σ w) (entry h w) (covers .finishes w) ∙ finished-started t (entry h w) (is .served w q),
+          λ w q. fits-started (finishOf σ w) (entry h w) (covers .finishes w) ∙ rested-started t (restOf js i w) (entry h w) (is .served w q),
         )
 
     earliest-le : earliestStart js σ i ≤ t
@@ -142,7 +151,8 @@ module _ (js : List Job) (m : ℕ) (s : Scenario) (admissible : Admissible js s)
           shaped .possibly-first t (omega (arith, covers .possibly t (omega arith))),
           admissible .releases i inside .0,
           is .released,
-          largest-le all (λ w. earliest (finishOf σ w)) (predecessors js i) t (λ w q. finished-earliest t (finishOf σ w) (entry h w) (covers .finishes w) (is .served w q)),
+          largest-le all (λ w. earliest (finishOf σ w) + restOf js i w) (predecessors js i) t
+              (λ w q. rested-earliest t (restOf js i w) (finishOf σ w) (entry h w) (covers .finishes w) (is .served w q)),
         )
 
     le-bound : t ≤ workConservingBound js σ
@@ -157,13 +167,14 @@ module _ (js : List Job) (m : ℕ) (s : Scenario) (admissible : Admissible js s)
     unfolding higherPriorityBound certainlyReadyBeside
     below-higher = go (smallest higher (certainlyReadyBeside js σ i) (length js)) (smallest-attained higher (certainlyReadyBeside js σ i) (length js))
       where
-        -- a predecessor of job j has finished: it is one of i's too, or its latest finish time counts in the bound
-        served : (y j : ℕ) → y ≤ t → certainlyReadyBeside js σ i j ≤ y → (w : ℕ) → member w (predecessors js j) ≡ true → started σ w ≡ true → Finished t (entry h w)
+        -- a predecessor of job j has rested: it has rested with i, or its latest finish time counts in the bound, with the rest
+        served : (y j : ℕ) → y ≤ t → certainlyReadyBeside js σ i j ≤ y → (w : ℕ) → member w (predecessors js j) ≡ true → started σ w ≡ true
+            → Rested t (restOf js j w) (entry h w)
         served y j l b w q e =
-            ⊎-elim (λ d. is .served w d)
-            (λ d. fits-finished t (finishOf σ w) (entry h w) (covers .finishes w) e
-            (omega (arith, le-largest (λ v. not (member v (predecessors js i))) (λ v. latest (finishOf σ v)) (predecessors js j) w q (ap not d))))
-            (cases (member w (predecessors js i)))
+            ⊎-elim (λ d. let x = rested-with js i j w d in rested-less t (restOf js j w) (restOf js i w) (entry h w) (x .1) (is .served w (x .0)))
+            (λ d. fits-rested t (restOf js j w) (finishOf σ w) (entry h w) (covers .finishes w) e
+            (omega (arith, le-largest (λ v. not (restedWith js i j v)) (λ v. latest (finishOf σ v) + restOf js j v) (predecessors js j) w q (ap not d))))
+            (cases (restedWith js i j w))
 
         go : (x : Limit) → Attained higher (certainlyReadyBeside js σ i) (length js) x → Below t x
         go infinite a = tt

@@ -1,6 +1,6 @@
 -- The whole run, whether the analysis accepts or not: one history, of which the statuses at every t are a view, and off which starts and finish times are
 -- read. Assumes nothing.
-use Prim.Native.Nat.{ℕ, zero, suc, _≤_, _<_}
+use Prim.Native.Nat.{ℕ, zero, suc, _+_, _≤_, _<_}
 use mathlib.Core.Path.{_≡_, refl, sym, ap, ap₂, _∙_}
 use mathlib.Core.Logic.{_⊎_, inl, inr, ⊎-elim}
 use mathlib.Core.Bool.{Bool, true, false, not, cond, false≢true, true≢false}
@@ -13,14 +13,14 @@ use lib.Dec.{leb, ltb}
 use lib.ListN.{length, List·getD-map}
 use borrow.Author.Tests.{lt-ltb, le-ltb, ltb-false, leb-true, leb-false}
 use Rattle.model.specs.Folds.{member}
-use Rattle.model.specs.Jobs.{Job, job, predecessors}
+use Rattle.model.specs.Jobs.{Job, job, predecessors, restOf}
 use Rattle.model.specs.Dispatch.{Scenario, waiting, running, done, status, isWaiting, run}
 use Rattle.model.specs.Guarantee.{WellFormed, Admissible, statusAt, Overlap}
 use Rattle.model.specs.Playing.{horizon, firstTime, runsUntil, startTime, finishTime, Played}
 use Rattle.model.proofs.Booleans.{cases}
 use Rattle.model.proofs.Folds.{below-suc}
 use Rattle.model.proofs.Predecessors.{predecessor-earlier, bell-predecessor}
-use Rattle.model.proofs.History.{Entry, unstarted, ran, entry, hasStarted, view, Finished, Begun, view-begun, finished-started}
+use Rattle.model.proofs.History.{Entry, unstarted, ran, entry, hasStarted, view, Rested, Finished, Begun, view-begun, finished-started}
 use Rattle.model.proofs.Run.{RanOnce, EntryRan, Served, After, At, run-after}
 use Rattle.model.proofs.Progress.{Shrinks, shrinks, all-over}
 
@@ -55,7 +55,7 @@ waits-until : (u a f : ℕ) → isWaiting (statusAt a f u) ≡ ltb u a
 unfolding statusAt
 waits-until u a f = go (ltb u a) (ltb u f)
   where
-    go : (b c : Bool) → isWaiting (cond b waiting (cond c (running f) done)) ≡ b
+    go : (b c : Bool) → isWaiting (cond b waiting (cond c (running f) (done f))) ≡ b
     go true c = refl
     go false true = refl
     go false false = refl
@@ -122,18 +122,18 @@ module _ (js : List Job) (m : ℕ) (s : Scenario) where
       ends : f ≤ b
       ranOnce : RanOnce js m s k a f
       stands : (t : ℕ) → status (run js m s t .statuses) k ≡ statusAt a f t
-      served : (w : ℕ) → member w (predecessors js k) ≡ true → finishIn (entry h w) ≤ a
+      served : (w : ℕ) → member w (predecessors js k) ≡ true → finishIn (entry h w) + restOf js k w ≤ a
 
     life : (k : ℕ) → k < length js → Life k (startIn (entry h k)) (finishIn (entry h k))
     life k l = go (entry h k) (all-finished k l) (after .inv .begun k) (after .inv .entries k) (after .inv .served k) (λ t. at-all-times t k l)
       where
-        by-then : (a : ℕ) (x : Entry) → Finished a x → finishIn x ≤ a
-        by-then a unstarted g = absurd g
-        by-then a (ran c f) g = g
+        by-then : (a r : ℕ) (x : Entry) → Rested a r x → finishIn x + r ≤ a
+        by-then a r unstarted g = absurd g
+        by-then a r (ran c f) g = g
 
         go : (x : Entry) → Finished b x → Begun b x → EntryRan js m s k x → Served js m s h k x → ((t : ℕ) → status (run js m s t .statuses) k ≡ view t x) → Life k (startIn x) (finishIn x)
         go unstarted e g p q v = absurd e
-        go (ran a f) e g p q v = record { begins = g .0; lasts = g .1; ends = e; ranOnce = p; stands = v; served = λ w i. by-then a (entry h w) (q w i) }
+        go (ran a f) e g p q v = record { begins = g .0; lasts = g .1; ends = e; ranOnce = p; stands = v; served = λ w i. by-then a (restOf js k w) (entry h w) (q w i) }
 
     -- ---- start and finish times are those of the history
 
@@ -165,28 +165,30 @@ module _ (js : List Job) (m : ℕ) (s : Scenario) where
 
     -- ---- one bell
 
-    -- a job starts when its predecessors have finished
-    ordered : (j : ℕ) → j < length js → (w : ℕ) → member w (predecessors js j) ≡ true → finishes w ≤ starts j
+    -- a job starts when its predecessors have been done for as long as it asks of each
+    ordered : (j : ℕ) → j < length js → (w : ℕ) → member w (predecessors js j) ≡ true → finishes w + restOf js j w ≤ starts j
     unfolding finishes
     ordered j l w e = omega (arith, timed j l .served w e, finish-is w (omega (arith, predecessor-earlier js m wf j l w e)))
 
-    -- of two jobs of one bell the later starts when the earlier has finished; by induction on a number above the later
-    in-turn : (n i j : ℕ) → j < n → i < j → j < length js → job js i .bell ≡ job js j .bell → finishes i ≤ starts j
+    -- of two jobs of one bell the later starts when the earlier has finished and the bell has rested; by induction on a number above the later
+    in-turn : (n i j : ℕ) → j < n → i < j → j < length js → job js i .bell ≡ job js j .bell → finishes i + job js j .rest ≤ starts j
     in-turn zero i j q l r e = absurd (not-suc-le-zero q)
     in-turn (suc n) i j q l r e = go (bell-predecessor js i j l e) (λ p. in-turn n i p)
       where
-        go : (p : ℕ) × (i ≤ p) × (p < j) × (job js p .bell ≡ job js j .bell) × (member p (predecessors js j) ≡ true)
-            → ((p : ℕ) → p < n → i < p → p < length js → job js i .bell ≡ job js p .bell → finishes i ≤ starts p) → finishes i ≤ starts j
+        go : (p : ℕ) × (i ≤ p) × (p < j) × (job js p .bell ≡ job js j .bell) × (member p (predecessors js j) ≡ true) × (restOf js j p ≡ job js j .rest)
+            → ((p : ℕ) → p < n → i < p → p < length js → job js i .bell ≡ job js p .bell → finishes i + job js p .rest ≤ starts p)
+            → finishes i + job js j .rest ≤ starts j
         go x f = by (ℕ-discrete i (x .0))
           where
-            by : Dec (i ≡ x .0) → finishes i ≤ starts j
-            by (yes d) = rw d (ordered j r (x .0) (x .4))
+            by : Dec (i ≡ x .0) → finishes i + job js j .rest ≤ starts j
+            by (yes d) = rw d (omega (arith, ordered j r (x .0) (x .4), x .5))
             by (no d) =
                 omega (
                   arith,
                   f (x .0) (omega (arith, x .2)) (lt-of-le-of-ne (x .1) d) (omega (arith, x .2)) (e ∙ sym (x .3)),
                   timed (x .0) (omega (arith, x .2)) .lasts,
                   ordered j r (x .0) (x .4),
+                  x .5,
                 )
 
     apart : (i j : ℕ) → i < length js → j < length js → (i ≡ j → ⊥) → job js i .bell ≡ job js j .bell → Overlap (starts i) (finishes i) (starts j) (finishes j) → ⊥
@@ -204,6 +206,7 @@ module _ (js : List Job) (m : ℕ) (s : Scenario) where
           executed = λ k l. timed k l .ranOnce .executed;
           over = λ k l. timed k l .ends;
           apart = apart;
+          rested = λ i j l r e. in-turn (suc j) i j (omega arith) l r e;
         }
 
     -- every history of the run says this of a job that has started

@@ -3,6 +3,7 @@ pub mod Marked
 pub mod Cautions
 pub mod LatestStarts
 pub mod Successors
+pub mod Rests
 pub mod Runs
 pub mod Instances
 pub mod Playings

@@ -2,9 +2,9 @@
 // the refusal; and whether all other words of the rows of bells and of notes, which held something before, are zero.
 ghost use Rattle.rows.specs.internal.Handed.{HandedOn};
 use jobs::row::BELL;
-use jobs::row::BESIDE;
 use jobs::row::JOB_TABLE;
 use jobs::row::LISTED_COUNT;
+use jobs::row::REST;
 use jobs::row::ROW_WORDS;
 use jobset::write_jobs;
 use libc::STDIN_FILENO;
@@ -32,7 +32,7 @@ use rows::note::NOTE_WORDS;
 // The bytes before a file: its length.
 const HEAD: usize = 2;
 
-// The key that the bell sounds for, what its record holds, the spare word, and a zero.
+// The key that the bell sounds for, what its record holds, the rest last, and a zero.
 fn show_bell(row: &[u32]) {
     if row.len() < BELL_WORDS {
         return;
@@ -43,7 +43,7 @@ fn show_bell(row: &[u32]) {
     print(b" 0\n");
 }
 
-// What the analysis asks of the job, its bell, its key, how many jobs its note lists, and a zero.
+// What the analysis asks of the job, its bell, its key, how many jobs its note lists, and its rest.
 fn show_job(row: &[u32], note: &[u32]) {
     if row.len() < ROW_WORDS {
         return;
@@ -52,10 +52,11 @@ fn show_job(row: &[u32], note: &[u32]) {
         return;
     }
     print(b"job");
-    print_numbers(&row[0..BESIDE]);
+    print_numbers(&row[0..REST]);
     print_number(row[BELL]);
     print_number(note[KEY]);
-    print_numbers(&row[LISTED_COUNT..ROW_WORDS]);
+    print_number(row[LISTED_COUNT]);
+    print_number(row[REST]);
     print(b"\n");
 }
 

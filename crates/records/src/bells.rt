@@ -4,7 +4,7 @@ ghost use mathlib.Core.List.{[]};
 ghost use Prim.Native.Nat.{_+_, _*_, _≤_, _<_};
 ghost use lib.ListN.{length};
 ghost use Rattle.words.specs.internal.Placed.{placed};
-ghost use Rattle.format.specs.Layout.{first, bellBytes, mostBells, longestFile};
+ghost use Rattle.format.specs.Layout.{bellBytes, mostBells, longestFile};
 ghost use Rattle.format.specs.Phrase.{sounding, findSounding, find};
 ghost use Rattle.format.specs.Reading.{bellIn, bellRecord, bellsFrom, bellsIn};
 ghost use Rattle.format.specs.internal.Sized.{Sized};
@@ -19,8 +19,8 @@ use fields::bells::is_in_range;
 use fields::bells::sounding_key;
 use fields::bells::write_bell;
 use fields::bytes::byte;
-use fields::layout::BELL_BYTES;
 use fields::layout::Layout;
+use fields::layout::bell_bytes;
 use fields::layout::bell_count_at;
 use fields::layout::bells_at;
 use fields::rules::is_within;
@@ -58,51 +58,54 @@ pub fn find_bell(phrase: &[u32], n: usize, key: u32, shift: u32) -> Found
 }
 
 // Writes row i.
-fn put_bell(part: &[u8], key: u32, phrase: &mut [u32], i: usize)
-    requires { ⌜ (bellBytes first ≤ length (now part)) × (key ≡ sounding (bellIn first (now part))) × (i < mostBells) × (phraseWords ≤ length (now phrase)) ⌝ }
-    ensures { λ _. ⌜ now (phrase .exit) ≡ placed (now (phrase .entry)) (bellRowsAt + i * bellWords) (bellRow (bellIn first (now (part .entry)))) ⌝ }
+fn put_bell(part: &[u8], l: Layout, key: u32, phrase: &mut [u32], i: usize)
+    requires { ⌜ Sized (layoutOf l) × (bellBytes (layoutOf l) ≤ length (now part)) × (key ≡ sounding (bellIn (layoutOf l) (now part)))
+        × (i < mostBells) × (phraseWords ≤ length (now phrase)) ⌝ }
+    ensures { λ _. ⌜ now (phrase .exit)
+        ≡ placed (now (phrase .entry)) (bellRowsAt + i * bellWords) (bellRow (bellIn (layoutOf l) (now (part .entry)))) ⌝ }
 {
     let from = BELL_ROWS + i * BELL_WORDS;
     let end = from + BELL_WORDS;
-    write_bell(part, key, &mut phrase[from..end]);
+    write_bell(part, l, key, &mut phrase[from..end]);
 }
 
 // One bell record, from the part of the file that begins at it, after i bells.
-fn read_bell(part: &[u8], at: usize, phrase: &mut [u32], i: usize) -> Reading
-    requires { ⌜ (i < mostBells) × (phraseWords ≤ length (now phrase)) × BellTable (now phrase) i ⌝ }
-    ensures { λ r. ⌜ r ≡ readingOf (bellRecord first (bellsHeld (now (phrase .entry)) i) at (now (part .entry))) ⌝ }
+fn read_bell(part: &[u8], l: Layout, at: usize, phrase: &mut [u32], i: usize) -> Reading
+    requires { ⌜ Sized (layoutOf l) × (i < mostBells) × (phraseWords ≤ length (now phrase)) × BellTable (now phrase) i ⌝ }
+    ensures { λ r. ⌜ r ≡ readingOf (bellRecord (layoutOf l) (bellsHeld (now (phrase .entry)) i) at (now (part .entry))) ⌝ }
     ensures { λ _. ⌜ now (phrase .exit)
-        ≡ bellPut (bellRecord first (bellsHeld (now (phrase .entry)) i) at (now (part .entry))) (now (phrase .entry)) i ⌝ }
+        ≡ bellPut (bellRecord (layoutOf l) (bellsHeld (now (phrase .entry)) i) at (now (part .entry))) (now (phrase .entry)) i ⌝ }
 {
-    if part.len() < BELL_BYTES {
+    if part.len() < bell_bytes(l) {
         return Reading::Refused(WRONG_END, at);
     }
-    let key = sounding_key(part);
-    if !is_in_range(part) {
+    let key = sounding_key(part, l);
+    if !is_in_range(part, l) {
         return Reading::Refused(WRONG_BELL, at);
     }
     let found = find_sounding(phrase, i, key);
     if let Found::At(_) = found {
         return Reading::Refused(DOUBLED_KEY, at);
     }
-    put_bell(part, key, phrase, i);
+    put_bell(part, l, key, phrase, i);
     Reading::Whole
 }
 
 // The first n bells, from `start` on, in rows from the first on.
-fn bells_from(file: &[u8], start: usize, n: usize, phrase: &mut [u32]) -> Reading
-    requires { ⌜ (start ≤ length (now file)) × (start ≤ longestFile) × (n ≤ mostBells) × (phraseWords ≤ length (now phrase)) ⌝ }
-    ensures { λ r. ⌜ r ≡ readingOf (bellsFrom first (now (file .entry)) n start []) ⌝ }
-    ensures { λ _. ⌜ HoldsBells (listOf (bellsFrom first (now (file .entry)) n start [])) (now (phrase .exit)) ⌝ }
+fn bells_from(file: &[u8], l: Layout, start: usize, n: usize, phrase: &mut [u32]) -> Reading
+    requires { ⌜ Sized (layoutOf l) × (start ≤ length (now file)) × (start ≤ longestFile) × (n ≤ mostBells) × (phraseWords ≤ length (now phrase)) ⌝ }
+    ensures { λ r. ⌜ r ≡ readingOf (bellsFrom (layoutOf l) (now (file .entry)) n start []) ⌝ }
+    ensures { λ _. ⌜ HoldsBells (listOf (bellsFrom (layoutOf l) (now (file .entry)) n start [])) (now (phrase .exit)) ⌝ }
 {
+    let size = bell_bytes(l);
     let mut at = start;
     let mut i = 0;
     while i < n {
-        let answer = read_bell(&file[at..], at, phrase, i);
+        let answer = read_bell(&file[at..], l, at, phrase, i);
         let Reading::Whole = answer else {
             return answer;
         };
-        at += BELL_BYTES;
+        at += size;
         i += 1;
     }
     Reading::Whole
@@ -122,5 +125,5 @@ pub fn read_bells(file: &[u8], l: Layout, phrase: &mut [u32]) -> Reading
     if !is_within(1, MOST_BELLS as u32, count) {
         return Reading::Refused(WRONG_BELL_COUNT, at);
     }
-    bells_from(file, bells_at(l), count as usize, phrase)
+    bells_from(file, l, bells_at(l), count as usize, phrase)
 }

@@ -73,8 +73,8 @@ module _ (x : Phrase) (v : Valid x) where
     small-key : SmallKey t i
     small-key =
         let rule = each-at (ValidNote (x .shift) (x .bells)) [] (x .notes) (v .fields .notes) i noNote here in
-        let bell = strikes (x .shift) (x .bells) (note x i) (v .fields .bells) (rule .sounds) in
-        let sounds = bell-ranges (getD (x .bells) (struck (x .shift) (x .bells) (note x i)) noBell) (bell .1) .sounds in
+        let bell = strikes (layout (x .version)) (x .shift) (x .bells) (note x i) (v .fields .bells) (rule .sounds) in
+        let sounds = bell-ranges (layout (x .version)) (getD (x .bells) (struck (x .shift) (x .bells) (note x i)) noBell) (bell .1) .sounds in
         let shift = shift-fits (layout (x .version)) (x .shift) (v .fields .shift) .0 in
         let key = key-small (note x i .key) (x .shift) shift (rw (bell .2) at (sounds .1)) in
         (omega (arith, written-is, key), omega (arith, shift-is, transposition-small (x .shift) shift))

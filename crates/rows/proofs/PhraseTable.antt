@@ -8,7 +8,7 @@ use lib.Seq.{getD-append-add, drop-at}
 use Rattle.model.specs.Limits.{mostJobs}
 use Rattle.words.specs.Padded.{padded}
 use Rattle.words.proofs.Padded.{padded-length}
-use Rattle.format.specs.Layout.{mostBells, mostListed}
+use Rattle.format.specs.Layout.{layout, mostBells, mostListed}
 use Rattle.format.specs.Outcome.{ok}
 use Rattle.format.specs.Phrase.{Bell, Note, Phrase}
 use Rattle.format.specs.Jobs.{noBell, noNote, note, struck}
@@ -50,7 +50,7 @@ module _ (x : Phrase) (v : Valid x) where
 
   -- The number of the bell that a note strikes is that of a bell.
   pub struck-below : (i : ℕ) → i < length (x .notes) → struck (x .shift) (x .bells) (note x i) < length (x .bells)
-  struck-below i h = strikes (x .shift) (x .bells) (note x i) (v .fields .bells) (valid-note i h .sounds) .0
+  struck-below i h = strikes (layout (x .version)) (x .shift) (x .bells) (note x i) (v .fields .bells) (valid-note i h .sounds) .0
 
   bells-wide : Wide bellRow bellWords (x .bells)
   bells-wide = bell-rows.rows-wide (x .bells)

@@ -12,7 +12,7 @@ use Rattle.format.specs.Fits.{All}
 use Rattle.format.specs.Layout.{mostListed}
 use Rattle.format.specs.Jobs.{noBell, noNote}
 use Rattle.rows.specs.Rows.{rowsIn}
-use Rattle.rows.specs.BellRow.{bellWords, writtenWord, transpositionWord, leastExecutionWord, mostExecutionWord, priorityWord, bellOfRow, bellsOfRows}
+use Rattle.rows.specs.BellRow.{bellWords, writtenWord, transpositionWord, leastExecutionWord, mostExecutionWord, priorityWord, restWord, bellOfRow, bellsOfRows}
 use Rattle.rows.specs.NoteRow.{noteWords, keyWord, earliestReleaseWord, latestReleaseWord, deadlineWord, listedCountWord, listedWord, noteOfRow, notesOfRows}
 use Rattle.rows.specs.PhraseTable.{bellRowsAt, noteRowsAt}
 use Rattle.rows.proofs.Records.{records-snoc}
@@ -37,6 +37,7 @@ bell-of-row t =
       transposition = same transpositionWord (omega arith) i;
       leastExecution = same leastExecutionWord (omega arith) i;
       mostExecution = same mostExecutionWord (omega arith) i;
+      rest = same restWord (omega arith) i;
       priority = same priorityWord (omega arith) i;
     }
 

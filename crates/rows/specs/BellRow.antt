@@ -1,4 +1,4 @@
--- The row of a bell: what its record holds, in the order of the file, and the key that it sounds for, which is derived. Assumes nothing.
+-- The row of a bell: what its record holds, and the key that it sounds for, which is derived. Assumes nothing.
 use Prim.Native.Nat.{ℕ}
 use mathlib.Core.List.{List, [], _∷_}
 use lib.ListN.{getD}
@@ -24,16 +24,15 @@ mostExecutionWord = 3
 abbrev pub priorityWord : ℕ
 priorityWord = 4
 
--- a word for what later versions add; 0
-abbrev pub spareWord : ℕ
-spareWord = 5
+abbrev pub restWord : ℕ
+restWord = 5
 
 abbrev pub soundingWord : ℕ
 soundingWord = 6
 
 unfoldable pub bellRow : Bell → List ℕ
 unfolding sounding
-bellRow b = b .written ∷ b .transposition ∷ b .leastExecution ∷ b .mostExecution ∷ b .priority ∷ 0 ∷ sounding b ∷ []
+bellRow b = b .written ∷ b .transposition ∷ b .leastExecution ∷ b .mostExecution ∷ b .priority ∷ b .rest ∷ sounding b ∷ []
 
 abbrev pub bellRows : List Bell → List ℕ
 bellRows = records bellRow
@@ -46,6 +45,7 @@ bellOfRow t =
       transposition = getD t transpositionWord 0;
       leastExecution = getD t leastExecutionWord 0;
       mostExecution = getD t mostExecutionWord 0;
+      rest = getD t restWord 0;
       priority = getD t priorityWord 0;
     }
 

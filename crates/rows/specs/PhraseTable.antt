@@ -44,7 +44,7 @@ abbrev pub phraseTable : Outcome Phrase → List ℕ
 phraseTable (ok x) = header x ++ (padded (mostBells * bellWords) (bellRows (x .bells)) ++ padded (mostJobs * noteWords) (noteRows (x .shift) (x .bells) (x .notes)))
 phraseTable (refused n at) = replicate phraseWords 0
 
--- The phrase that any table holds: its header says how many rows are read; derived and spare words are not.
+-- The phrase that any table holds: its header says how many rows are read; derived words are not.
 abbrev pub phraseOf : List ℕ → Phrase
 phraseOf t =
     record {

@@ -11,7 +11,6 @@ pub const MOST_EXECUTION: usize = 3;
 
 pub const PRIORITY: usize = 4;
 
-// For what later versions add.
-pub const SPARE: usize = 5;
+pub const REST: usize = 5;
 
 pub const SOUNDING: usize = 6;

@@ -17,10 +17,10 @@ use Rattle.format.proofs.Passed.{required}
 use Rattle.rules.specs.internal.Asking.{noteAsked}
 
 -- A bell passes as it is.
-pub same-bell : (before : List Bell) (at : ℕ) (b c : Bell) → bellRules before at b ≡ ok c → bellRules before at b ≡ ok b
+pub same-bell : (l : Layout) (before : List Bell) (at : ℕ) (b c : Bell) → bellRules l before at b ≡ ok c → bellRules l before at b ≡ ok b
 unfolding bellRules
-same-bell before at b c e =
-    let (_, f) = required (bellInRange b) wrongBell at e in
+same-bell l before at b c e =
+    let (_, f) = required (bellInRange l b) wrongBell at e in
     let (_, g) = required (isNone (findSounding (sounding b) before)) doubledKey at f in
     e ∙ sym g
 
@@ -48,23 +48,23 @@ module _ (l : Layout) where
       step : Outcome Bell → Outcome (List Bell)
       step o = _>>=_ o (λ c. bellsRules l (drop (suc i) bells) (at + bellBytes l) (take i bells ++ c ∷ []))
 
-      opened : bellsRules l (drop i bells) at (take i bells) ≡ step (bellRules (take i bells) at (getD bells i noBell))
+      opened : bellsRules l (drop i bells) at (take i bells) ≡ step (bellRules l (take i bells) at (getD bells i noBell))
       unfolding bellsRules step
       opened = ap (λ (d : List Bell). bellsRules l d at (take i bells)) (drop-cons bells i noBell h)
 
       -- A bell that passes is done, and the next has its place after it.
-      pub next-bell : (c : Bell) → bellRules (take i bells) at (getD bells i noBell) ≡ ok c
+      pub next-bell : (c : Bell) → bellRules l (take i bells) at (getD bells i noBell) ≡ ok c
           → bellsRules l (drop i bells) at (take i bells) ≡ bellsRules l (drop (i + 1) bells) (at + bellBytes l) (take (i + 1) bells)
       unfolding step
       next-bell c e =
           let one : suc i ≡ i + 1 = omega arith in
           opened
-          ∙ ap step (same-bell (take i bells) at (getD bells i noBell) c e)
+          ∙ ap step (same-bell l (take i bells) at (getD bells i noBell) c e)
           ∙ ap (λ (t : List Bell). bellsRules l (drop (suc i) bells) (at + bellBytes l) t) (sym (take-suc bells i noBell h))
           ∙ ap (λ (k : ℕ). bellsRules l (drop k bells) (at + bellBytes l) (take k bells)) one
 
       -- A bell that is refused ends it.
-      pub stop-bell : (n to : ℕ) → bellRules (take i bells) at (getD bells i noBell) ≡ refused n to → bellsRules l (drop i bells) at (take i bells) ≡ refused n to
+      pub stop-bell : (n to : ℕ) → bellRules l (take i bells) at (getD bells i noBell) ≡ refused n to → bellsRules l (drop i bells) at (take i bells) ≡ refused n to
       unfolding step
       stop-bell n to e = opened ∙ ap step e
 

@@ -19,14 +19,13 @@ use Rattle.format.proofs.Files.{written-length}
 use Rattle.format.proofs.Layouts.{sized, head-total, bytes-small}
 use Rattle.format.proofs.Ranges.{valid-fits}
 use Rattle.format.proofs.Records.{NoteFits}
-use Rattle.format.proofs.Sizes.{bells-size}
-use Rattle.format.proofs.Versions.{bell-file, note-file}
+use Rattle.format.proofs.Versions.{note-file}
 use Rattle.fields.specs.declared.layout.Layout.{Layout as Row}
 use Rattle.fields.specs.internal.Layouts.{layoutOf}
 use Rattle.rows.specs.PhraseTable.{versionWord, coresWord, bellCountWord, noteCountWord, shiftWord, phraseOf}
 use Rattle.rows.proofs.PhraseTable as table
 use Rattle.writer.specs.internal.Putting.{BellsFit, NotesFit}
-use Rattle.writer.proofs.PutBells.{bells-count}
+use Rattle.writer.proofs.PutBells.{bells-count, bells-bytes}
 use Rattle.writer.proofs.PutNotes.{notes-count}
 
 few-and-fit : (r : Row) (shift : ℕ) (bells : List Bell) (before notes : List Note) → Each (ValidNote shift bells) before notes → All (NoteFits (layoutOf r)) notes
@@ -74,7 +73,7 @@ module _ (t : List ℕ) (v : Valid (phraseOf t)) where
     fits = subst (λ (k : Layout). FitsBy k x) (sym same) (valid-fits x v)
 
     -- Its bells fit their bytes.
-    pub bells-fit : BellsFit (x .bells)
+    pub bells-fit : BellsFit l (x .bells)
     bells-fit = fits .bells
 
     -- Its notes fit their bytes, and list no more than their rows have room for.
@@ -91,7 +90,7 @@ module _ (t : List ℕ) (v : Valid (phraseOf t)) where
     head = fieldsFile (headWidths l) (headFields l x)
 
     abbrev bells : List ℕ
-    bells = records (bellFile first) (x .bells)
+    bells = records (bellFile l) (x .bells)
 
     abbrev count : List ℕ
     count = digits 1 (length (x .notes))
@@ -101,7 +100,7 @@ module _ (t : List ℕ) (v : Valid (phraseOf t)) where
 
     same-body : body l x ≡ bells ++ (count ++ notes)
     unfolding body
-    same-body = λ i. records (sym (bell-file l) i) (x .bells) ++ (count ++ records (sym (note-file l refl) i) (x .notes))
+    same-body = λ i. bells ++ (count ++ records (sym (note-file l refl) i) (x .notes))
 
     parts : written x ≡ head ++ (bells ++ (count ++ notes))
     unfolding written writtenBy
@@ -110,12 +109,9 @@ module _ (t : List ℕ) (v : Valid (phraseOf t)) where
     head-length : length head ≡ bellsAt l
     head-length = fields-length (headWidths l) (headFields l x) (fits .head) ∙ head-total l
 
-    bells-bytes : length bells ≡ bellCount * bellBytes first
-    bells-bytes = omega (arith, bells-size first (x .bells), same-bells)
-
-    body-length : length (body l x) ≡ bellCount * bellBytes first + 1 + length notes
+    body-length : length (body l x) ≡ bellCount * bellBytes l + 1 + length notes
     body-length =
-        ap length same-body ∙ omega (arith, length-append bells (count ++ notes), length-append count notes, digits-length 1 (length (x .notes)), bells-bytes)
+        ap length same-body ∙ omega (arith, length-append bells (count ++ notes), length-append count notes, digits-length 1 (length (x .notes)), bells-bytes t bellCount l)
 
     -- The file has the bytes of the header, of the bells, of the number of notes and of the notes.
     pub size : length (written x) ≡ noteCountAt l bellCount + 1 + length notes
@@ -147,7 +143,7 @@ module _ (t : List ℕ) (v : Valid (phraseOf t)) where
       file-put start at q p =
           let two : List ℕ = head ++ bells in
           let three : List ℕ = two ++ count in
-          let two-long : length two ≡ at = omega (arith, length-append head bells, head-length, bells-bytes) in
+          let two-long : length two ≡ at = omega (arith, length-append head bells, head-length, bells-bytes t bellCount l) in
           let three-long : length three ≡ at + 1 = omega (arith, length-append two count, two-long, digits-length 1 (length (x .notes))) in
           (λ i. placed (placed (placed (head-placed start q i) start bells) at (digits 1 (sym same-notes i))) (at + 1) notes)
           ∙ ap (λ (s : List ℕ). placed (placed s at count) (at + 1) notes) (placed-append file 0 start head bells (omega arith) (omega (arith, head-length)))

@@ -8,6 +8,8 @@ ghost use Rattle.format.specs.Bytes.{records};
 ghost use Rattle.format.specs.Layout.{first, bellBytes, mostBells};
 ghost use Rattle.format.specs.Valid.{Valid};
 ghost use Rattle.format.specs.Writing.{bellFile, noteFile, written};
+ghost use Rattle.format.specs.internal.Sized.{Sized};
+ghost use Rattle.fields.specs.internal.Layouts.{layoutOf};
 ghost use Rattle.rows.specs.BellRow.{bellsOfRows};
 ghost use Rattle.rows.specs.NoteRow.{notesOfRows};
 ghost use Rattle.rows.specs.PhraseTable.{bellRowsAt, noteRowsAt, phraseWords, phraseOf};
@@ -16,8 +18,9 @@ use encoding::bells::put_bell;
 use encoding::head::put_head;
 use encoding::notes::put_note;
 use encoding::numbers::put_8;
-use fields::layout::BELL_BYTES;
+use fields::layout::Layout;
 use fields::layout::NOTE_BYTES;
+use fields::layout::bell_bytes;
 use fields::layout::bells_at;
 use fields::layout::layout_of;
 use fields::layout::note_count_at;
@@ -34,21 +37,20 @@ use rows::note::LISTED_COUNT;
 use rows::note::NOTE_WORDS;
 
 // The records of the first n bells, from `start` on.
-fn put_bells(phrase: &[u32], start: usize, n: usize, file: &mut [u8])
-    requires { ⌜ (phraseWords ≤ length (now phrase)) × (n ≤ mostBells) × (start + n * bellBytes first ≤ length (now file))
-        × BellsFit (bellsOfRows (drop bellRowsAt (now phrase)) n) ⌝ }
+fn put_bells(phrase: &[u32], l: Layout, start: usize, n: usize, file: &mut [u8])
+    requires { ⌜ Sized (layoutOf l) × (phraseWords ≤ length (now phrase)) × (n ≤ mostBells) × (start + n * bellBytes (layoutOf l) ≤ length (now file))
+        × BellsFit (layoutOf l) (bellsOfRows (drop bellRowsAt (now phrase)) n) ⌝ }
     ensures { λ _. ⌜ now (file .exit) ≡ placed (now (file .entry)) start
-        (records (bellFile first) (bellsOfRows (drop bellRowsAt (now (phrase .entry))) n)) ⌝ }
+        (records (bellFile (layoutOf l)) (bellsOfRows (drop bellRowsAt (now (phrase .entry))) n)) ⌝ }
 {
+    let width = bell_bytes(l);
     let mut at = start;
     let mut i = 0;
     while i < n {
         let from = BELL_ROWS + i * BELL_WORDS;
-        put_bell(
-            &phrase[from..from + BELL_WORDS],
-            &mut file[at..at + BELL_BYTES],
-        );
-        at += BELL_BYTES;
+        let end = at + width;
+        put_bell(&phrase[from..from + BELL_WORDS], l, &mut file[at..end]);
+        at = end;
         i += 1;
     }
 }
@@ -92,7 +94,7 @@ pub fn put_file(phrase: &[u32; PHRASE_WORDS], file: &mut [u8])
         phrase[SHIFT],
         bells,
     );
-    put_bells(phrase, first, bells as usize, file);
+    put_bells(phrase, l, first, bells as usize, file);
     let at = note_count_at(l, bells as usize);
     let count = phrase[NOTE_COUNT];
     put_8(file, at, count);

@@ -1,4 +1,5 @@
-//! Times the product's library against this checker on the same phrases; prints markdown tables.
+//! Times the product's library against this checker on the same phrases; prints markdown tables. Each row ends with the same
+//! phrase in version 3, where every bell has a rest.
 
 use std::hint::black_box;
 use std::ops::RangeInclusive;
@@ -6,7 +7,7 @@ use std::time::{Duration, Instant};
 
 use reference::check::check;
 use reference::dispatch::Scenario;
-use reference::draft::playing_bytes;
+use reference::draft::{Draft, playing_bytes};
 use reference::events::by_events;
 use reference::examples::P;
 use reference::foreign::{self, HostPhrase};
@@ -14,74 +15,105 @@ use reference::playing::{Played, literally, play_by};
 use reference::random::{Generator, Shape, accepted_words, draft, longest, scenario};
 use reference::reading::{MOST_STROKES, Phrase, Refusal, read};
 use reference::report::report;
-use reference::walk::{walk, words_per_state};
+use reference::walk::{Walk, walk, words_per_state};
 use reference::writing::{EditedPhrase, write_into};
 
 const SEED: u64 = 1;
+/// Rests have draws of their own, so that all else is drawn as it would be without them.
+const REST_SEED: u64 = 3;
 const STROKES: [u64; 4] = [8, 16, 32, 64];
 const DRIVERS: [u64; 3] = [1, 4, 8];
 const DRIVERS_PLAYED: [u64; 4] = [1, 2, 4, 8];
 const TEXT_BYTES: usize = 32_768;
 
 fn main() {
+    print_reading_tables();
+    print_playing_table();
+    print_analysis_tables();
+}
+
+fn print_reading_tables() {
     println!(
         "Phrases with one state a level: reading, the text, and a whole report (µs; ratio: library / this)\n"
     );
-    println!(
-        "| K | m | reading, library | this | ratio | text, library | this | ratio | report, library | this | ratio |"
-    );
-    println!("|--:|--:|--:|--:|--:|--:|--:|--:|--:|--:|--:|");
+    let columns = ["reading", "text", "report"].map(library_and_this).concat();
+    print_head("| K | m |", &columns, &of_version_3(&columns));
     each(&DRIVERS, |strokes, drivers| {
         print_reading_and_report(&clockwork(strokes, drivers));
     });
 
     println!("\nA phrase read from its file, and written to a lent buffer (µs)\n");
-    println!(
-        "| bells | K | bytes | reading, library | this | ratio | writing, library | this | ratio |"
-    );
-    println!("|--:|--:|--:|--:|--:|--:|--:|--:|--:|");
+    let columns = ["reading", "writing"].map(library_and_this).concat();
+    let version_3 = of_version_3(&format!(" bytes |{columns}"));
+    print_head("| bells | K | bytes |", &columns, &version_3);
     print_reading_and_writing(&P);
     print_reading_and_writing(&clockwork(16, 4));
     print_reading_and_writing(&longest(&mut Generator::new(SEED)).bytes());
+}
 
+fn print_playing_table() {
     println!(
         "\nA playing worked out: whole calls, this one's millisecond by millisecond and by events; and without reading \
          the phrase (µs)\n"
     );
-    println!(
-        "| run | K | m | last end, ms | library | literal | ratio | by events | ratio \
-         | without reading, library | by events | ratio |"
-    );
-    println!("|:--|--:|--:|--:|--:|--:|--:|--:|--:|--:|--:|--:|");
+    let without_reading = " without reading, library | by events | ratio |";
+    let columns = format!(" library | literal | ratio | by events | ratio |{without_reading}");
+    let version_3 = format!(" last end, ms | library | by events | ratio |{without_reading}");
+    let version_3 = of_version_3(&version_3);
+    print_head("| run | K | m | last end, ms |", &columns, &version_3);
     each(&DRIVERS_PLAYED, |strokes, drivers| {
         print_playing("dense", &dense(strokes, drivers));
     });
     each(&DRIVERS_PLAYED, |strokes, drivers| {
         print_playing("long gaps", &long_gaps(strokes, drivers));
     });
+}
 
+fn print_analysis_tables() {
     println!("\nAnalysis, in a table just long enough and in one of half that length\n");
     print_analysis_head();
     each(&DRIVERS, |strokes, drivers| {
         let (file, words) = crowded(strokes, drivers, 100..=400);
-        print_analysis(&file, words);
-        print_analysis(&file, words / 2);
+        print_analysis(&file, words, 1);
+        print_analysis(&file, words, 2);
     });
 
     println!("\nAnalysis, with more and more states in a level\n");
     print_analysis_head();
     for states in [10, 40, 160, 640, 2560] {
         let (file, words) = crowded(32, 4, states..=2 * states);
-        print_analysis(&file, words);
+        print_analysis(&file, words, 1);
     }
 }
 
+/// The heads of three columns.
+fn library_and_this(what: &str) -> String {
+    format!(" {what}, library | this | ratio |")
+}
+
+/// The same heads, the first of them named for version 3.
+fn of_version_3(columns: &str) -> String {
+    format!(" version 3:{columns}")
+}
+
+/// A table's head: all columns but those of what is not a number are set to the right.
+fn print_head(first: &str, columns: &str, version_3: &str) {
+    let head = format!("{first}{columns}{version_3}");
+    println!("{head}");
+    let names = head.trim_matches('|').split('|').map(str::trim);
+    let rules = names.map(|name| match name {
+        "run" | "answer" => ":--|",
+        _ => "--:|",
+    });
+    println!("|{}", rules.collect::<String>());
+}
+
 fn print_analysis_head() {
-    println!(
-        "| K | m | words | answer | states | edges | library ms | this ms | ratio \
-         | library ns/edge | this ns/edge | library states/s | this states/s |"
-    );
-    println!("|--:|--:|--:|:--|--:|--:|--:|--:|--:|--:|--:|--:|--:|");
+    let columns = " library ms | this ms | ratio \
+                   | library ns/edge | this ns/edge | library states/s | this states/s |";
+    let version_3 = of_version_3(" words | answer | states | library ms | this ms | ratio |");
+    let first = "| K | m | words | answer | states | edges |";
+    print_head(first, columns, &version_3);
 }
 
 fn each(drivers: &[u64], mut print: impl FnMut(u64, u64)) {
@@ -162,6 +194,14 @@ fn crowded(strokes: u64, drivers: u64, states: RangeInclusive<u64>) -> (Vec<u8>,
         }
     }
     best.expect("some phrase is accepted")
+}
+
+/// The same phrase in version 3, every bell with a rest.
+fn rested(file: &[u8]) -> Vec<u8> {
+    let mut random = Generator::new(REST_SEED);
+    let draft = Draft::of(&EditedPhrase::from(&phrase(file)));
+    let draft = draft.expect("what was read fits its bytes");
+    draft.rested(|| random.range(1, 50) as u16).bytes()
 }
 
 fn pair_words(file: &[u8]) -> usize {
@@ -252,30 +292,51 @@ fn agree(file: &[u8], words: usize) {
     assert_eq!(found, check(file, words).host_number(), "answers differ");
 }
 
+/// The cells of the library's time, this one's and their ratio, in µs with so many digits.
+fn compared(library: f64, own: f64, digits: usize) -> String {
+    let (ratio, library, own) = (library / own, library / 1e3, own / 1e3);
+    format!(" {library:.digits$} | {own:.digits$} | {ratio:.2} |")
+}
+
 fn print_reading_and_report(file: &[u8]) {
     let phrase = phrase(file);
+    println!(
+        "| {} | {} |{}{}",
+        phrase.strokes.len(),
+        phrase.drivers,
+        reading_and_report(file),
+        reading_and_report(&rested(file))
+    );
+}
+
+fn reading_and_report(file: &[u8]) -> String {
     let words = pair_words(file);
     agree(file, words);
     let (library, own) = times(file, words);
-    println!(
-        "| {} | {} | {:.2} | {:.2} | {:.2} | {:.2} | {:.2} | {:.2} | {:.2} | {:.2} | {:.2} |",
-        phrase.strokes.len(),
-        phrase.drivers,
-        library.reading / 1e3,
-        own.reading / 1e3,
-        library.reading / own.reading,
-        library.text() / 1e3,
-        own.text() / 1e3,
-        library.text() / own.text(),
-        library.report / 1e3,
-        own.report / 1e3,
-        library.report / own.report
-    );
+    [
+        compared(library.reading, own.reading, 2),
+        compared(library.text(), own.text(), 2),
+        compared(library.report, own.report, 2),
+    ]
+    .concat()
 }
 
 fn print_reading_and_writing(file: &[u8]) {
     let phrase = phrase(file);
-    let edited = EditedPhrase::from(&phrase);
+    let rested = rested(file);
+    println!(
+        "| {} | {} | {} |{} {} |{}",
+        phrase.bells.len(),
+        phrase.strokes.len(),
+        file.len(),
+        reading_and_writing(file),
+        rested.len(),
+        reading_and_writing(&rested)
+    );
+}
+
+fn reading_and_writing(file: &[u8]) -> String {
+    let edited = EditedPhrase::from(&phrase(file));
     let mut host = HostPhrase::of(&edited, || 0);
     let mut read_host = HostPhrase::zero();
     let mut buffer = vec![0; file.len()];
@@ -290,18 +351,7 @@ fn print_reading_and_writing(file: &[u8]) {
         &mut || foreign::phrase_write(black_box(&mut host), black_box(&mut buffer)),
         &mut || written(black_box(&edited), black_box(&mut buffer_again)),
     ]);
-    println!(
-        "| {} | {} | {} | {:.3} | {:.3} | {:.2} | {:.3} | {:.3} | {:.2} |",
-        phrase.bells.len(),
-        phrase.strokes.len(),
-        file.len(),
-        library_read / 1e3,
-        own_read / 1e3,
-        library_read / own_read,
-        library_write / 1e3,
-        own_write / 1e3,
-        library_write / own_write
-    );
+    compared(library_read, own_read, 3) + &compared(library_write, own_write, 3)
 }
 
 /// This writer's answer, as the host's call gives it.
@@ -324,31 +374,61 @@ fn print_playing(name: &str, shape: &Shape) {
     let file = draft(&mut random, shape).bytes();
     let phrase = phrase(&file);
     let playing = playing_bytes(&scenario(&mut random, &phrase));
-    let last_end = agree_on_playing(&file, &playing);
-    // An empty playing is refused as soon as the phrase is read.
-    let [library_reading, library, own_reading, events] = nanoseconds([
-        &mut || library_played(&file, &[]),
-        &mut || library_played(&file, &playing),
-        &mut || played(&file, &[], by_events),
-        &mut || played(&file, &playing, by_events),
-    ]);
+    let by_events_times = PlayingTimes::new(&file, &playing);
+    let last_end = by_events_times.last_end;
     // Millions of milliseconds one by one take long, and so need no repetition.
     let literal_rounds = if last_end < 100_000 { 12 } else { 0 };
     let [literal] = best_of(literal_rounds, [&mut || played(&file, &playing, literally)]);
-    let (library_run, events_run) = (library - library_reading, events - own_reading);
+    // Rests alter no range, so the playing is one of the phrase with rests too.
+    let version_3 = PlayingTimes::new(&rested(&file), &playing);
     println!(
-        "| {name} | {} | {} | {last_end} | {:.3} | {:.1} | {} | {:.3} | {:.2} | {:.3} | {:.3} | {:.2} |",
+        "| {name} | {} | {} | {last_end} | {:.3} | {:.1} | {} | {:.3} | {:.2} |{} {} |{}{}",
         phrase.strokes.len(),
         phrase.drivers,
-        library / 1e3,
+        by_events_times.library / 1e3,
         literal / 1e3,
-        two_digits(library / literal),
-        events / 1e3,
-        library / events,
-        library_run / 1e3,
-        events_run / 1e3,
-        library_run / events_run
+        two_digits(by_events_times.library / literal),
+        by_events_times.own / 1e3,
+        by_events_times.library / by_events_times.own,
+        by_events_times.without_reading(),
+        version_3.last_end,
+        compared(version_3.library, version_3.own, 3),
+        version_3.without_reading()
     );
+}
+
+/// Nanoseconds of a playing worked out by the library and by events here, and of what is read before it.
+struct PlayingTimes {
+    last_end: u64,
+    library_reading: f64,
+    library: f64,
+    own_reading: f64,
+    own: f64,
+}
+
+impl PlayingTimes {
+    fn new(file: &[u8], playing: &[u8]) -> PlayingTimes {
+        let last_end = agree_on_playing(file, playing);
+        // An empty playing is refused as soon as the phrase is read.
+        let [library_reading, library, own_reading, own] = nanoseconds([
+            &mut || library_played(file, &[]),
+            &mut || library_played(file, playing),
+            &mut || played(file, &[], by_events),
+            &mut || played(file, playing, by_events),
+        ]);
+        PlayingTimes {
+            last_end,
+            library_reading,
+            library,
+            own_reading,
+            own,
+        }
+    }
+
+    fn without_reading(&self) -> String {
+        let library = self.library - self.library_reading;
+        compared(library, self.own - self.own_reading, 3)
+    }
 }
 
 fn library_played(file: &[u8], playing: &[u8]) -> u64 {
@@ -383,28 +463,66 @@ fn two_digits(ratio: f64) -> String {
     format!("{ratio:.*}", places.max(2) as usize)
 }
 
-fn print_analysis(file: &[u8], words: usize) {
+/// A phrase in a table of so many words, or of a part of them; in version 3 in one that is as long for what that phrase takes.
+fn print_analysis(file: &[u8], words: usize, part: usize) {
     let phrase = phrase(file);
-    agree(file, words);
-    let walked = walk(&phrase, words);
-    let answer = match check(file, words).host_number() {
-        0 => "accepted".to_string(),
-        number => format!("{} at {}", number >> 32, number as u32),
-    };
-    let (library, own) = times(file, words);
-    let (library, own) = (library.analysis(), own.analysis());
+    let rested = rested(file);
+    let rested_words = rested_words(&rested, words) / part;
+    let words = words / part;
+    let row = Analysis::new(file, words);
+    let (edges, states) = (row.walk.edges as f64, row.walk.states as f64);
+    let version_3 = Analysis::new(&rested, rested_words);
     println!(
-        "| {} | {} | {words} | {answer} | {} | {} | {:.3} | {:.3} | {:.2} | {:.0} | {:.0} | {:.0} | {:.0} |",
+        "| {} | {} | {words} | {} | {} | {} |{} {:.0} | {:.0} | {:.0} | {:.0} | {rested_words} | {} | {} |{}",
         phrase.strokes.len(),
         phrase.drivers,
-        walked.states,
-        walked.edges,
-        library / 1e6,
-        own / 1e6,
-        library / own,
-        library / walked.edges as f64,
-        own / walked.edges as f64,
-        walked.states as f64 * 1e9 / library,
-        walked.states as f64 * 1e9 / own
+        row.answer,
+        row.walk.states,
+        row.walk.edges,
+        row.milliseconds(),
+        row.library / edges,
+        row.own / edges,
+        states * 1e9 / row.library,
+        states * 1e9 / row.own,
+        version_3.answer,
+        version_3.walk.states,
+        version_3.milliseconds()
     );
+}
+
+/// The fewest words with which the phrase with rests is accepted. Levels of many more states than without rests take too long:
+/// then so many as have room for those timed here.
+fn rested_words(file: &[u8], words_without: usize) -> usize {
+    const MOST_STATES: usize = 3_000;
+    let most = words_without.max(MOST_STATES * pair_words(file));
+    accepted_words(file, most).unwrap_or(most)
+}
+
+/// An answer, what the walk took for it, and nanoseconds of the library and of this checker.
+struct Analysis {
+    answer: String,
+    walk: Walk,
+    library: f64,
+    own: f64,
+}
+
+impl Analysis {
+    fn new(file: &[u8], words: usize) -> Analysis {
+        agree(file, words);
+        let (library, own) = times(file, words);
+        Analysis {
+            answer: match check(file, words).host_number() {
+                0 => "accepted".to_string(),
+                number => format!("{} at {}", number >> 32, number as u32),
+            },
+            walk: walk(&phrase(file), words),
+            library: library.analysis(),
+            own: own.analysis(),
+        }
+    }
+
+    fn milliseconds(&self) -> String {
+        let (library, own) = (self.library / 1e6, self.own / 1e6);
+        format!(" {library:.3} | {own:.3} | {:.2} |", library / own)
+    }
 }

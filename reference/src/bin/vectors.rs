@@ -1,6 +1,6 @@
 //! Writes the stored vectors: FOLDER/stdin with phrase files, each after the words of its table, the bytes of its text buffer and its own length, two bytes
 //! each, and FOLDER/stdout with what the program `report_examples` has to print for them. The first are worked by hand from document 01; the others are drawn,
-//! and this checker says what is due. Then the same for version 2 of the phrase file.
+//! and this checker says what is due. Then the same for version 2 of the phrase file, and for version 3.
 //!
 //!     cargo run --offline --manifest-path reference/Cargo.toml --bin vectors crates/report_examples
 
@@ -8,18 +8,19 @@ use std::fs;
 use std::path::Path;
 
 use reference::examples::{
-    P, P_LOWER_REPORT, P_REPORT, P_SHIFTED, m6, m8, outermost_bells, p_lower, p_with,
-    refused_of_version_2,
+    P, P_LOWER_REPORT, P_REPORT, P_RESTED, P_SHIFTED, RestedExample, late_by_a_rest, m6, m8,
+    outermost_bells, p_lower, p_with, refused_of_version_2, refused_of_version_3, rested_examples,
 };
 use reference::printed::result;
-use reference::random::{Case, Generator, case, shifted_case};
+use reference::random::{Case, Generator, case, rested_case, shifted_case};
 use reference::report::report;
 
 const SEED: u64 = 7;
 /// The program reads no more than this.
 const MOST_INPUT: usize = 65_536;
-/// The part of it that is kept for version 2.
+/// The parts of it that are kept for versions 2 and 3.
 const VERSION_2_INPUT: usize = 8_192;
+const VERSION_3_INPUT: usize = 16_384;
 const MOST_WORDS: usize = 16_384;
 const MOST_TEXT: usize = 8_192;
 
@@ -40,9 +41,12 @@ fn vectors() -> (Vec<u8>, String) {
     let mut vectors = Vectors::default();
     let mut random = Generator::new(SEED);
     vectors.add_all(by_hand());
-    vectors.add_drawn(&mut random, case, MOST_INPUT - VERSION_2_INPUT);
+    let up_to_version_2 = MOST_INPUT - VERSION_3_INPUT;
+    vectors.add_drawn(&mut random, case, up_to_version_2 - VERSION_2_INPUT);
     vectors.add_all(by_hand_of_version_2());
-    vectors.add_drawn(&mut random, shifted_case, MOST_INPUT);
+    vectors.add_drawn(&mut random, shifted_case, up_to_version_2);
+    vectors.add_all(by_hand_of_version_3());
+    vectors.add_drawn(&mut random, rested_case, MOST_INPUT);
     (vectors.input, vectors.output)
 }
 
@@ -199,6 +203,74 @@ fn by_hand_of_version_2() -> Vec<(Example, String)> {
     all
 }
 
+fn by_hand_of_version_3() -> Vec<(Example, String)> {
+    let printed = p_printed(P_REPORT);
+    let mut all = in_buffers(&P_RESTED, 32, &[140], &[141], &printed);
+    for example in rested_examples() {
+        let (printed, length) = rested_printed(&example);
+        let file = example.draft.bytes();
+        all.extend(in_buffers(
+            &file,
+            MOST_WORDS,
+            &[length - 1],
+            &[length],
+            &printed,
+        ));
+        // Room for one state in each half, which is enough for phrases with one state a level; and one word less.
+        let pair = 2 * (2 + 2 * usize::from(example.draft.drivers) + 2 * example.ends.len());
+        all.extend(in_buffers(&file, pair, &[], &[length], &printed));
+        let full = format!(
+            "refused 13 level 0\nlength 19, rest unchanged\nrefused 13 at 0, jobs 0, states 0\n{NOTHING}"
+        );
+        all.extend(in_buffers(&file, pair - 1, &[], &[19], &full));
+    }
+    let printed = format!(
+        "refused 14 stroke 1 ends 7..7\nlength 30, rest unchanged\nlate 1 ends 7 7, jobs 0, states 0\n{NOTHING}"
+    );
+    all.extend(in_buffers(
+        &late_by_a_rest(),
+        MOST_WORDS,
+        &[29],
+        &[30],
+        &printed,
+    ));
+    for (file, number, place) in refused_of_version_3() {
+        let (printed, length) = refused_printed(number, place);
+        all.extend(in_buffers(&file, 0, &[], &[length], &printed));
+    }
+    all
+}
+
+/// What is printed for an example by what was worked out for it, and the length of its text. All its strokes are called from 0
+/// on, so that they respond as they end.
+fn rested_printed(example: &RestedExample) -> (String, usize) {
+    let draft = &example.draft;
+    let mut text = String::new();
+    let mut hold = 0;
+    for (number, (note, (low, high))) in draft.notes.iter().zip(&example.ends).enumerate() {
+        assert_eq!(note.ra, 0);
+        let bell = usize::from(note.key - 12);
+        let (name, due) = (["C0", "C#0"][bell], note.due);
+        hold += draft.bells[bell].cb;
+        text += &format!(
+            "stroke {number} key {name} bell {bell} ends {low}..{high} response {low}..{high} due {due}\n"
+        );
+    }
+    let (strokes, states) = (example.ends.len(), example.states);
+    text += &format!("accepted strokes {strokes} states {states} hold {hold}\n");
+    let row = |time: fn(&(u64, u64)) -> u64| -> String {
+        (example.ends.iter())
+            .map(|ends| format!(" {}", time(ends)))
+            .collect()
+    };
+    let (low, high, length) = (row(|ends| ends.0), row(|ends| ends.1), text.len());
+    let printed = format!(
+        "{text}length {length}, rest unchanged\naccepted, jobs {strokes}, states {states}\n\
+         earliest{low}, clear\nlatest{high}, clear\nbest{low}, clear\nworst{high}, clear\n"
+    );
+    (printed, length)
+}
+
 fn framed(example: &Example) -> Vec<u8> {
     let mut bytes = Vec::new();
     for size in [example.table_words, example.text_bytes, example.file.len()] {
@@ -233,7 +305,8 @@ mod tests {
 
     #[test]
     fn this_checker_gives_what_is_worked_by_hand() {
-        for (example, expected) in by_hand().into_iter().chain(by_hand_of_version_2()) {
+        let all = [by_hand(), by_hand_of_version_2(), by_hand_of_version_3()];
+        for (example, expected) in all.into_iter().flatten() {
             assert_eq!(printed(&example), expected);
         }
     }

@@ -1,5 +1,6 @@
 //! Files with something wrong, or at a limit and still right.
 
+use super::rested::{cut_in_rest, damage_rest};
 use super::shifted::damage_shift;
 use super::valid::{self, Shape};
 use super::{Generator, Versioned};
@@ -20,15 +21,19 @@ const SHAPE: Shape = Shape {
 
 pub(super) fn damaged(random: &mut Generator, versioned: Versioned) -> Vec<u8> {
     let draft = valid::draft(random, &SHAPE);
-    let draft = versioned(random, draft);
+    let draft = versioned.both(random, draft);
     harmed(random, draft)
 }
 
 /// The draft with one field or two at or beyond a limit, or its file with bytes disturbed.
 pub(super) fn harmed(random: &mut Generator, mut draft: Draft) -> Vec<u8> {
+    let has_rests = draft.another_rest().is_some();
+    if has_rests && random.chance(1, 10) {
+        return cut_in_rest(random, &draft);
+    }
     if random.chance(1, 3) {
         let mut file = draft.bytes();
-        disturb(random, &mut file);
+        disturb(random, &mut file, has_rests);
         return file;
     }
     // Two damages at once show which rule comes first.
@@ -38,7 +43,7 @@ pub(super) fn harmed(random: &mut Generator, mut draft: Draft) -> Vec<u8> {
     }
     let mut file = draft.bytes();
     if random.chance(1, 20) {
-        disturb(random, &mut file);
+        disturb(random, &mut file, has_rests);
     } else if draft.shift.is_some() && random.chance(1, 5) {
         // A rule of the head may be broken, and nothing follows.
         file.truncate(random.range(6, 8) as usize);
@@ -48,11 +53,17 @@ pub(super) fn harmed(random: &mut Generator, mut draft: Draft) -> Vec<u8> {
 }
 
 fn damage(random: &mut Generator, draft: &mut Draft) {
+    let has_rests = draft.another_rest().is_some();
+    if has_rests && random.chance(1, 4) {
+        return damage_rest(random, draft);
+    }
     if draft.shift.is_some() && random.chance(1, 3) {
         return damage_shift(random, draft);
     }
-    match random.below(14) {
-        // 3 would be the next one, and is twice as frequent.
+    let kinds = if has_rests { 15 } else { 14 };
+    match random.below(kinds) {
+        // The next version is twice as frequent: one that there is, or in version 3 one that there is not yet.
+        0 if has_rests => draft.version = random.pick(&[0, 4, 4, 255]),
         0 => draft.version = random.pick(&[0, 3, 3, 255]),
         1 => draft.count_error = random.pick(&[1, u32::MAX, 5, 256, 65_536, 1 << 24]),
         2 => draft.drivers = random.pick(&[0, 1, 8, 9, 255]),
@@ -60,11 +71,17 @@ fn damage(random: &mut Generator, draft: &mut Draft) {
         4..=6 => damage_bell(random, draft),
         7 | 8 => damage_stroke_count(random, draft),
         9 => {
-            draft.rest = (0..random.range(1, 3))
+            draft.remaining = (0..random.range(1, 3))
                 .map(|_| random.below(256) as u8)
                 .collect()
         }
         _ if draft.notes.is_empty() => {}
+        // Both 11 and 10, which is rare otherwise.
+        14 => {
+            let number = random.below(draft.notes.len() as u64) as usize;
+            let note = &mut draft.notes[number];
+            (note.key, note.ra) = (255, note.rb.wrapping_add(1));
+        }
         _ => {
             let number = random.below(draft.notes.len() as u64) as u8;
             damage_note(random, draft, number);
@@ -89,6 +106,7 @@ fn damage_bell_count(random: &mut Generator, draft: &mut Draft) {
                 transposition: 0,
                 ca: 1,
                 cb: 2,
+                rest: draft.another_rest(),
                 rank: 3,
             });
         }
@@ -210,7 +228,7 @@ fn damage_waits(random: &mut Generator, note: &mut DraftNote, number: u8) {
 }
 
 /// Changes, cuts, adds, inserts or takes out bytes; the count is mostly put right.
-fn disturb(random: &mut Generator, file: &mut Vec<u8>) {
+fn disturb(random: &mut Generator, file: &mut Vec<u8>, has_rests: bool) {
     let any = |random: &mut Generator, limit: usize| random.below(limit as u64) as usize;
     match random.below(7) {
         0 => {
@@ -226,7 +244,7 @@ fn disturb(random: &mut Generator, file: &mut Vec<u8>) {
             return;
         }
         2 => {
-            let head = if file[0] == 2 { 8 } else { 7 };
+            let head = if file[0] == 2 || has_rests { 8 } else { 7 };
             file.truncate(any(random, head).min(file.len()));
         }
         3 => file.truncate(any(random, file.len())),

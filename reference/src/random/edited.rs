@@ -37,13 +37,14 @@ pub(super) fn edited(random: &mut Generator, versioned: Versioned) -> EditedCase
     } else {
         valid::unwalked(random)
     };
-    let draft = versioned(random, draft);
+    let draft = versioned.both(random, draft);
+    let has_rests = draft.another_rest().is_some();
     let mut phrase = EditedPhrase::from(&draft);
-    fill_rest(random, &mut phrase);
+    fill_unused(random, &mut phrase, has_rests);
     if random.chance(3, 4) {
         // Several at once show which rule comes first.
         for _ in 0..random.pick(&[1, 1, 1, 2, 3]) {
-            break_phrase(random, &mut phrase);
+            break_phrase(random, &mut phrase, has_rests);
         }
     }
     let length = file_length(&phrase).unwrap_or_else(|_| draft.bytes().len());
@@ -77,7 +78,7 @@ fn room(random: &mut Generator, length: usize) -> usize {
 }
 
 /// Puts anything into the rows from the counts on: numbers as in a phrase, or any.
-fn fill_rest(random: &mut Generator, phrase: &mut EditedPhrase) {
+fn fill_unused(random: &mut Generator, phrase: &mut EditedPhrase, has_rests: bool) {
     let (bell_count, note_count) = (phrase.bells().len(), phrase.notes().len());
     let limit = random.pick(&[2, 120, 4_000_000, 1 << 32]);
     let mut any = || random.below(limit) as u32;
@@ -88,7 +89,10 @@ fn fill_rest(random: &mut Generator, phrase: &mut EditedPhrase) {
             ca: any(),
             cb: any(),
             rank: any(),
+            rest: 0,
         };
+        // Drawn in version 3 alone, so that nothing else is drawn otherwise than before there were rests.
+        bell.rest = if has_rests { any() } else { bell.cb };
     }
     for note in &mut phrase.notes[note_count..] {
         *note = EditedNote {
@@ -107,13 +111,20 @@ fn fill_rest(random: &mut Generator, phrase: &mut EditedPhrase) {
 }
 
 /// One field, or two that belong together, at a limit, beyond it or too wide.
-fn break_phrase(random: &mut Generator, phrase: &mut EditedPhrase) {
-    if phrase.version == 2 && random.chance(1, 4) {
+fn break_phrase(random: &mut Generator, phrase: &mut EditedPhrase, has_rests: bool) {
+    if has_rests && random.chance(1, 3) {
+        return break_rest(random, phrase);
+    }
+    if (phrase.version == 2 || has_rests) && random.chance(1, 4) {
         return break_shift(random, phrase);
     }
     let beside = |count: u32| [count.saturating_sub(1), count.saturating_add(1)];
-    match random.below(20) {
-        0 => phrase.version = wrong(random, phrase.version, &[0, 3, 3, 255, 256]),
+    let kinds = if has_rests { 21 } else { 20 };
+    match random.below(kinds) {
+        0 => {
+            let next = if has_rests { 4 } else { 3 };
+            phrase.version = wrong(random, phrase.version, &[0, next, next, 255, 256]);
+        }
         1 => phrase.drivers = wrong(random, phrase.drivers, &[0, 1, 8, 9, 255, 256]),
         2 => {
             let [fewer, more] = beside(phrase.bell_count);
@@ -128,6 +139,12 @@ fn break_phrase(random: &mut Generator, phrase: &mut EditedPhrase) {
         4..=10 => break_bell(random, phrase),
         11 => first_notes_list_four(phrase),
         _ if phrase.notes().is_empty() => {}
+        // Both 11 and 10, which is rare otherwise.
+        20 => {
+            let number = row(random, phrase.notes().len());
+            let note = &mut phrase.notes[number];
+            (note.key, note.due) = (255, 3_600_001);
+        }
         _ => break_note(random, phrase),
     }
 }
@@ -143,6 +160,36 @@ fn break_shift(random: &mut Generator, phrase: &mut EditedPhrase) {
         }
         _ if phrase.notes().is_empty() => {}
         _ => break_key(random, phrase),
+    }
+}
+
+/// A rest, with or without another field of its bell; or the version that has bytes for it.
+fn break_rest(random: &mut Generator, phrase: &mut EditedPhrase) {
+    let rows = phrase.bells().len().max(1);
+    let other = phrase.bells[random.below(rows as u64) as usize];
+    let number = row(random, rows);
+    match random.below(8) {
+        // Of version 1 with a shift it is 19, without one the rests decide, as of version 2.
+        0 | 1 => phrase.version = 2,
+        2 => (phrase.version, phrase.shift) = (1, random.pick(&[0, 0, phrase.shift])),
+        // All other rests are what a file without them has.
+        3 => {
+            phrase.version = random.pick(&[1, 2, 2]);
+            phrase.bells.iter_mut().for_each(|bell| bell.rest = 0);
+            phrase.bells[number].rest = random.pick(&[1, 5000, 5001, 65_536, u32::MAX]);
+        }
+        // By its key 7, but 6 comes first.
+        4 => {
+            let bell = &mut phrase.bells[number];
+            (bell.written, bell.transposition) = (other.written, other.transposition);
+            bell.rest = random.pick(&[0, 5000, 5001, 65_536]);
+        }
+        _ => {
+            let bell = &mut phrase.bells[number];
+            let wide = too_wide(random, bell.rest, 2);
+            let others = [0, 4999, 5000, 5001, 65_535, u32::MAX, wide, wide];
+            bell.rest = random.pick(&others);
+        }
     }
 }
 

@@ -2,7 +2,7 @@
 //! thousands of states, each with a table near what it takes.
 
 use super::valid::{self, Shape};
-use super::{Case, Generator, Versioned, around, damaged};
+use super::{Case, Generator, VERSION_1, Versioned, around, damaged};
 use crate::check::HOST_WORDS;
 use crate::draft::{Draft, DraftNote};
 use crate::range::Range;
@@ -45,7 +45,7 @@ struct Measured {
 /// Large in all ways; levels have up to some hundreds of states.
 pub fn large(random: &mut Generator, versioned: Versioned) -> Case {
     let (strokes, bells) = large_group(random);
-    let Measured { draft, pair, walk } = measured(random, strokes, bells);
+    let Measured { draft, pair, walk } = measured(random, strokes, bells, versioned);
     let table_words = match random.below(8) {
         0..=3 => around(random, pair, walk.peak),
         4..=6 => {
@@ -58,7 +58,7 @@ pub fn large(random: &mut Generator, versioned: Versioned) -> Case {
         Outcome::Accepted { ends, .. } => with_dues(random, draft, &ends),
         _ => draft,
     };
-    let draft = versioned(random, draft);
+    let draft = (versioned.shifted)(random, draft);
     let file = if random.chance(1, 4) {
         broken(random, draft)
     } else {
@@ -70,7 +70,7 @@ pub fn large(random: &mut Generator, versioned: Versioned) -> Case {
 /// Levels of thousands of states, which take long to walk.
 pub fn widest(random: &mut Generator) -> Case {
     let strokes = random.range(13, 14);
-    let Measured { draft, pair, walk } = measured(random, strokes, strokes);
+    let Measured { draft, pair, walk } = measured(random, strokes, strokes, VERSION_1);
     let states = if random.chance(3, 4) {
         walk.peak
     } else {
@@ -82,8 +82,9 @@ pub fn widest(random: &mut Generator) -> Case {
     }
 }
 
-fn measured(random: &mut Generator, strokes: u64, bells: u64) -> Measured {
+fn measured(random: &mut Generator, strokes: u64, bells: u64, versioned: Versioned) -> Measured {
     let draft = draft(random, strokes, bells);
+    let draft = (versioned.rested)(random, draft);
     let phrase = reading::read(&draft.bytes()).expect("drawn phrases are valid");
     let pair = 2 * walk::words_per_state(&phrase);
     Measured {

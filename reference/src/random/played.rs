@@ -41,7 +41,7 @@ fn any_file(random: &mut Generator, versioned: Versioned) -> Vec<u8> {
         2..=16 => return valid::valid(random, versioned),
         _ => valid::unwalked(random),
     };
-    versioned(random, draft).bytes()
+    versioned.both(random, draft).bytes()
 }
 
 fn harmed(random: &mut Generator, phrase: &Phrase) -> Vec<u8> {

@@ -1,4 +1,5 @@
-//! Phrases of version 2, made from drafts of version 1: the same bells are struck, by keys that a shift moves.
+//! Phrases of version 2, made from drafts of version 1: the same bells are struck, by keys that a shift moves. The same of
+//! version 3, made from drafts with rests.
 
 use super::Generator;
 use crate::draft::{Draft, DraftBell};
@@ -31,6 +32,7 @@ fn add_low_bell(draft: &mut Draft) {
             transposition: 0,
             ca: 1,
             cb: 2,
+            rest: draft.another_rest(),
             rank: 3,
         });
         draft.bell_count += 1;
@@ -95,6 +97,6 @@ pub(super) fn key_near(random: &mut Generator, bells: &[i64], shift: i64) -> i64
 }
 
 /// The key that a bell sounds for, in its range or not.
-fn sounding(bell: &DraftBell) -> i64 {
+pub(super) fn sounding(bell: &DraftBell) -> i64 {
     i64::from(bell.written) + i64::from(bell.transposition)
 }

@@ -142,8 +142,9 @@ const SHAPES: [Shape; 9] = [
 pub(super) fn valid(random: &mut Generator, versioned: Versioned) -> Vec<u8> {
     let shape = random.pick(&SHAPES);
     let draft = draft(random, &shape);
+    let draft = (versioned.rested)(random, draft);
     let draft = with_some_dues(random, draft);
-    versioned(random, draft).bytes()
+    (versioned.shifted)(random, draft).bytes()
 }
 
 /// A valid file of any shape, but with all or most strokes certainly called at 0. Candidates before which one of these
@@ -227,6 +228,7 @@ pub(super) fn draft_bells(random: &mut Generator, shape: &Shape, count: u64) -> 
             transposition: (key - written) as i8,
             ca: ca as u16,
             cb: cb as u16,
+            rest: None,
             rank: random.below(shape.ranks) as u8,
         });
     }

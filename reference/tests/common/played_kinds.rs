@@ -9,11 +9,12 @@ use crate::differences::same;
 use crate::tally::Tally;
 use crate::was_10::WasTen;
 
-/// With so late a last call the literal run is slow.
+/// With so late a last call, or such rests, the literal run is slow.
 const LONG: u64 = 20_000;
 
-pub fn is_long(scenario: &Scenario) -> bool {
-    scenario.calls.iter().any(|&call| call >= LONG)
+pub fn is_long(phrase: &Phrase, scenario: &Scenario) -> bool {
+    let rests: u64 = phrase.strokes.iter().map(|stroke| stroke.rest).sum();
+    rests >= LONG || scenario.calls.iter().any(|&call| call >= LONG)
 }
 
 /// What was compared.
@@ -128,8 +129,8 @@ impl Kinds {
     ) {
         let strokes = 0..phrase.strokes.len();
         let waits_for_driver = |number: usize| {
-            let waits = &phrase.strokes[number].waits;
-            let ends = waits.iter().map(|&wait| played.ends[wait]);
+            let stroke = &phrase.strokes[number];
+            let ends = (stroke.waits.iter()).map(|&w| played.ends[w] + stroke.rest_after(w));
             played.starts[number] > ends.fold(scenario.calls[number], u64::max)
         };
         let ends = &played.ends[strokes.clone()];
@@ -141,7 +142,7 @@ impl Kinds {
             strokes.clone().any(waits_for_driver),
             starts.iter().any(|start| ends.contains(start)),
             strokes.is_empty(),
-            is_long(scenario),
+            is_long(phrase, scenario),
         ]);
     }
 }

@@ -1,5 +1,6 @@
 //! What phrases of version 2 were written or refused: shifts and keys, each in the ways that a careless writer would take.
 
+use reference::layout::Layout;
 use reference::reading::Refusal;
 use reference::writing::{EditedPhrase, file_length};
 
@@ -113,8 +114,8 @@ impl ShiftedWriting {
 
 /// The key of the note that begins at this place of the file.
 fn key_at(phrase: &EditedPhrase, place: usize) -> u32 {
-    let head = if phrase.version == 2 { 8 } else { 7 };
-    let mut at = head + 7 * phrase.bells().len() + 1;
+    let layout = Layout::of(phrase.version.into()).expect("a note was refused");
+    let mut at = layout.bells_at() + layout.bell_bytes() * phrase.bells().len() + 1;
     for note in phrase.notes() {
         if at == place {
             return note.key;

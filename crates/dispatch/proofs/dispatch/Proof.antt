@@ -20,12 +20,16 @@ slice-aggregate-wake-all c = search needs
 
 wake-all-requires : tie.Need-wake-all-requires
 wake-all-requires c κs =
-    let known = c .before .before .before .before .before .pre in (
+    let start = c .before .before .before .before .before in
+    let known = start .pre in
+    let finishes = now (start .args .finishes) in (
       record {
         rows-of = known .0 .setting .rows-of;
         few-jobs = known .0 .setting .jobs;
+        rests = known .0 .setting .rests;
         has-jobs = known .0 .has-jobs;
-        finishes-of = omega (arith, as-long (now (c .before .before .before .before .before .args .finishes)) (known .2), known .0 .setting .jobs);
+        finishes-of = omega (arith, as-long finishes (known .2), known .0 .setting .jobs);
+        finishes-small = λ j b. omega (arith, cleared finishes mostJobs (known .2) j);
       },
       known .0 .setting .jobs,
     )

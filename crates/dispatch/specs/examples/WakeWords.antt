@@ -5,12 +5,12 @@ use mathlib.Core.List.{List, [], _∷_, map}
 use lib.ListN.{getD}
 use Rattle.model.specs.Jobs.{Job}
 use Rattle.model.specs.Dispatch.{Scenario}
-use Rattle.model.specs.examples.Marked.{stroke, waiting}
+use Rattle.model.specs.examples.Marked.{stroke, waiting, resting}
 use Rattle.words.specs.Tabulate.{tabulate}
-use Rattle.dispatch.specs.internal.Wakes.{asleep, startedWord, wakeIn, wakeOf, wordOf, wokenBy}
+use Rattle.dispatch.specs.internal.Wakes.{asleep, startedWord, lastMoment, wakeIn, wakeOf, wordOf, wokenBy}
 
--- the marks
-pub marks : asleep ∷ startedWord ∷ [] ≡ 2147483648 ∷ 4294967295 ∷ []
+-- the marks, and the last moment: 3,600,000 and 64 times 10,000
+pub marks : asleep ∷ startedWord ∷ lastMoment ∷ [] ≡ 2147483648 ∷ 4294967295 ∷ 4240000 ∷ []
 marks = refl
 
 -- the word of a job that waits for job n to start
@@ -19,17 +19,21 @@ waitsFor n = 2147483648 + n
 
 -- ---- of a list of predecessors
 
--- the predecessors, the moment, and the word that is due; jobs 0, 2 and 4 finish at 9, 5 and 7, and jobs 1 and 3 have not started
+-- the rests of jobs, the predecessors, the moment, and the word that is due; jobs 0, 2 and 4 finish at 9, 5 and 7, and jobs 1 and 3 have not started
 pub record Listed : Type 0 where
+  pub rests : List ℕ
   pub waits : List ℕ
   pub from : ℕ
   pub due : ℕ
 
+abbrev rested : List ℕ → ℕ → List ℕ → ℕ → Listed
+rested rests t ws x = record { rests = rests; waits = ws; from = t; due = x }
+
 abbrev from : ℕ → List ℕ → ℕ → Listed
-from t ws x = record { waits = ws; from = t; due = x }
+from = rested []
 
 abbrev pub among : Listed → ℕ
-among c = wakeIn (9 ∷ 0 ∷ 5 ∷ 0 ∷ 7 ∷ []) (c .waits) (c .from)
+among c = wakeIn (λ w. getD (c .rests) w 0) (9 ∷ 0 ∷ 5 ∷ 0 ∷ 7 ∷ []) (c .waits) (c .from)
 
 abbrev lists : List Listed
 lists =
@@ -52,6 +56,18 @@ lists =
     ∷ from 3 (1 ∷ 3 ∷ []) (waitsFor 1)
     ∷ from 3 (3 ∷ 1 ∷ []) (waitsFor 3)
     ∷ from 3 (4 ∷ 3 ∷ 0 ∷ 1 ∷ []) (waitsFor 3)
+    -- one that has rested after the moment, then, and before it
+    ∷ rested (0 ∷ 0 ∷ 3 ∷ []) 3 (2 ∷ []) 8
+    ∷ rested (0 ∷ 0 ∷ 3 ∷ []) 8 (2 ∷ []) 8
+    ∷ rested (0 ∷ 0 ∷ 3 ∷ []) 9 (2 ∷ []) 9
+    -- the first to finish is the last to have rested, by a moment, or is not; whichever place it has, or two
+    ∷ rested (0 ∷ 0 ∷ 5 ∷ []) 3 (2 ∷ 0 ∷ 4 ∷ []) 10
+    ∷ rested (0 ∷ 0 ∷ 5 ∷ []) 3 (0 ∷ 4 ∷ 2 ∷ []) 10
+    ∷ rested (0 ∷ 0 ∷ 5 ∷ []) 3 (2 ∷ 0 ∷ 2 ∷ []) 10
+    ∷ rested (0 ∷ 0 ∷ 3 ∷ []) 3 (0 ∷ 4 ∷ 2 ∷ []) 9
+    -- the rest of another is not asked; and one that has not started has not begun to rest
+    ∷ rested (8 ∷ 8 ∷ 0 ∷ 8 ∷ 8 ∷ []) 3 (2 ∷ []) 5
+    ∷ rested (0 ∷ 0 ∷ 0 ∷ 4 ∷ []) 3 (3 ∷ []) (waitsFor 3)
     ∷ []
 
 pub as-listed : map among lists ≡ map (λ (c : Listed). c .due) lists
@@ -122,6 +138,55 @@ before-the-start = refl
 pub of-any : map (λ (c : Case). wordOf five called (c .finishes) (c .number)) cases ≡ map (λ (c : Case). c .due) cases
 unfolding wakeOf
 of-any = refl
+
+-- ---- of jobs whose bells rest
+
+-- Bells 7, 8 and 9 rest for 6, 3 and 4. The predecessors of job 2 are 1, which it lists, and 0, of its bell; those of job 3 are 0 and 2, both of its bell, which
+-- it lists, and 2 again, the nearest; those of job 4 are 0 and 1, the latter of its bell; job 5, the first of its bell, lists 3.
+abbrev six : List Job
+six =
+    resting 6 90 [] 0 30 1 9 1 7
+    ∷ resting 3 90 [] 0 30 1 9 1 8
+    ∷ resting 6 90 (1 ∷ []) 0 30 1 9 1 7
+    ∷ resting 6 90 (0 ∷ 2 ∷ []) 0 30 1 9 1 7
+    ∷ resting 3 90 (0 ∷ []) 0 30 1 9 1 8
+    ∷ resting 4 90 (3 ∷ []) 0 30 1 9 1 9
+    ∷ []
+
+abbrev calledSix : Scenario
+calledSix = record { release = λ j. getD (4 ∷ 6 ∷ 14 ∷ 2 ∷ 1 ∷ 3 ∷ []) j 0; execution = λ j. 29 }
+
+abbrev restingCases : List Case
+restingCases =
+    -- the first of its bell has no rest to wait for, nor for what it lists
+    waits 0 [] 4
+    ∷ waits 5 (0 ∷ 0 ∷ 0 ∷ 20 ∷ []) 20
+    -- job 0 has rested at 15, which is after job 1 finishes, then, and before; and after the release or before it
+    ∷ waits 2 (9 ∷ 12 ∷ []) 15
+    ∷ waits 2 (9 ∷ 15 ∷ []) 15
+    ∷ waits 2 (9 ∷ 16 ∷ []) 16
+    ∷ waits 2 (7 ∷ 12 ∷ []) 14
+    -- listed and the nearest, job 2 rests once; job 0, of the same bell too, does not rest, be it the later
+    ∷ waits 3 (20 ∷ 5 ∷ 21 ∷ []) 27
+    ∷ waits 3 (20 ∷ 5 ∷ 9 ∷ []) 20
+    ∷ waits 3 (20 ∷ 5 ∷ 15 ∷ []) 21
+    -- each by its own bell's rest, and job 0, of another, with none
+    ∷ waits 4 (9 ∷ 12 ∷ []) 15
+    ∷ waits 4 (18 ∷ 12 ∷ []) 18
+    -- none rests that has not started
+    ∷ waits 2 (9 ∷ []) (waitsFor 1)
+    ∷ waits 2 (0 ∷ 12 ∷ []) (waitsFor 0)
+    ∷ waits 3 (20 ∷ 5 ∷ []) (waitsFor 2)
+    ∷ started 4 (9 ∷ 12 ∷ 0 ∷ 0 ∷ 17 ∷ []) 15
+    ∷ []
+
+pub as-rested : map (λ (c : Case). wakeOf six calledSix (c .finishes) (c .number)) restingCases ≡ map (λ (c : Case). c .unstarted) restingCases
+unfolding wakeOf
+as-rested = refl
+
+pub of-any-rested : map (λ (c : Case). wordOf six calledSix (c .finishes) (c .number)) restingCases ≡ map (λ (c : Case). c .due) restingCases
+unfolding wakeOf
+of-any-rested = refl
 
 -- ---- after a start
 

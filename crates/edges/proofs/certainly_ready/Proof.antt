@@ -1,22 +1,22 @@
--- `edges::certainly_ready` meets its contract. The loop's invariant: the larger of `ready` and what the predecessors left give is the result.
+-- `edges::certainly_ready` meets its contract. The loop's invariant: the larger of `ready` and what the predecessors left give is what all give, as without rests.
 -- Assumes nothing.
-use Prim.Native.Nat.{ℕ, _-_}
+use Prim.Native.Nat.{_-_, max}
 use native.Mathlib.Omega.{arith}
 use denote.Ref.{now}
 use borrow.Author.Needs.{needs}
-use Rattle.model.specs.Folds.{all}
-use Rattle.model.specs.Jobs.{predecessors}
-use Rattle.model.specs.States.{latest, finishOf}
-use Rattle.model.specs.Edges.{certainlyReady}
+use Rattle.model.specs.Folds.{largest, all}
+use Rattle.model.specs.Jobs.{job, predecessors}
 use Rattle.jobs.specs.internal.JobRow.{jobsOfRows}
 use Rattle.states.specs.internal.Slots.{stateOf}
 use Rattle.edges.proofs.Folds.{LargestLeft, largest-next, largest-done}
+use Rattle.edges.proofs.Rests.{latestIn, certainly-counted}
 use Rattle.edges.proofs.certainly_ready.Statement.{statement}
 use Rattle.edges.proofs.certainly_ready.Tie as tie
 
 abbrev Inv-loop : tie.InvT-loop
 Inv-loop rows k s m i n ready₀ j₀ ready j =
-    LargestLeft all (λ (w : ℕ). latest (finishOf (stateOf m k s) w)) (predecessors (jobsOfRows rows k) i) (certainlyReady (jobsOfRows rows k) (stateOf m k s) i) n ready j
+    LargestLeft all (latestIn (stateOf m k s)) (predecessors (jobsOfRows rows k) i)
+    (max (job (jobsOfRows rows k) i .latestRelease) (largest all (latestIn (stateOf m k s)) (predecessors (jobsOfRows rows k) i))) n ready j
 
 abbrev μ-loop : tie.MeasureT-loop
 μ-loop rows k s m i n ready₀ j₀ ready j = n - j
@@ -28,7 +28,6 @@ latest-release-requires : tie.Need-latest-release-requires Inv-loop μ-loop
 latest-release-requires c κs = search needs
 
 loop-holds : tie.Need-loop-holds Inv-loop μ-loop
-unfolding certainlyReady
 loop-holds c = (c .before .predecessor-count .ensures .0, rw (c .latest-release .ensures))
 
 predecessor-requires : tie.Need-predecessor-requires Inv-loop μ-loop
@@ -49,16 +48,31 @@ loop-less c = search needs
 loop-again : tie.Need-loop-again Inv-loop μ-loop
 loop-again c =
     let a = c .before .before .before .before .before .before .before .before .before .args in
+    let js = jobsOfRows (now (a .rows)) (a .k) in
+    let σ = stateOf (a .m) (a .k) (now (a .s)) in
     let i = c .before .before .before .before .loop in
-    let w = c .before .before .predecessor in
     let x = c .before .latest-finish in
-    largest-next all (λ (w : ℕ). latest (finishOf (stateOf (a .m) (a .k) (now (a .s))) w)) (predecessors (jobsOfRows (now (a .rows)) (a .k)) (a .i)) (certainlyReady (jobsOfRows (now (a .rows)) (a .k)) (stateOf (a .m) (a .k) (now (a .s))) (a .i)) (c .before .before .before .before .before .before .predecessor-count .result) (i .ready) (i .j) (x .result) (c .larger .result) (i .inv) (omega arith) (rw (← w .ensures .0) (x .ensures)) (c .larger .ensures)
+    largest-next all (latestIn σ) (predecessors js (a .i)) (max (job js (a .i) .latestRelease) (largest all (latestIn σ) (predecessors js (a .i))))
+    (c .before .before .before .before .before .before .predecessor-count .result) (i .ready) (i .j) (x .result) (c .larger .result) (i .inv) (omega arith)
+    (rw (← c .before .before .predecessor .ensures .0) (x .ensures)) (c .larger .ensures)
+
+certainly-rested-requires : tie.Need-certainly-rested-requires Inv-loop μ-loop
+certainly-rested-requires c κs = search needs
+
+larger-requires-2 : tie.Need-larger-requires-2 Inv-loop μ-loop
+larger-requires-2 c κs = search needs
 
 returns : tie.Need-returns Inv-loop μ-loop
 returns c =
-    let a = c .before .before .before .before .before .before .args in
-    let i = c .before .loop in
-    largest-done all (λ (w : ℕ). latest (finishOf (stateOf (a .m) (a .k) (now (a .s))) w)) (predecessors (jobsOfRows (now (a .rows)) (a .k)) (a .i)) (certainlyReady (jobsOfRows (now (a .rows)) (a .k)) (stateOf (a .m) (a .k) (now (a .s))) (a .i)) (c .before .before .before .predecessor-count .result) (i .ready) (i .j) (i .inv) (omega arith)
+    let s = c .before .before .before .before .before .before .before .before in
+    let a = s .args in
+    let js = jobsOfRows (now (a .rows)) (a .k) in
+    let σ = stateOf (a .m) (a .k) (now (a .s)) in
+    let i = c .before .before .before .loop in
+    let all-counted = largest-done all (latestIn σ) (predecessors js (a .i))
+    (max (job js (a .i) .latestRelease) (largest all (latestIn σ) (predecessors js (a .i))))
+    (c .before .before .before .before .before .predecessor-count .result) (i .ready) (i .j) (i .inv) (omega arith) in
+    certainly-counted js σ (a .i) (i .ready) (c .before .certainly-rested .result) (c .larger2 .result) all-counted (c .before .certainly-rested .ensures) (c .larger2 .ensures)
 
 pub certainly-ready-spec : {M : Type 1} → statement M
 certainly-ready-spec =
@@ -75,4 +89,6 @@ certainly-ready-spec =
     add-j
     loop-less
     loop-again
+    certainly-rested-requires
+    larger-requires-2
     returns)

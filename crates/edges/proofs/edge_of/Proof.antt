@@ -13,7 +13,7 @@ use mir.Syntax.{w64}
 use mir.Val.{toZ, ofZ}
 use mir.ValLaws.{toZ-pos, toZ-ofZ}
 use borrow.Author.Needs.{needs}
-use Rattle.model.specs.Limits.{latestTime, longestExecution}
+use Rattle.model.specs.Limits.{latestTime, longestExecution, longestRest}
 use Rattle.model.specs.Folds.{Limit}
 use Rattle.model.specs.Jobs.{Job, job}
 use Rattle.model.specs.States.{State}
@@ -23,7 +23,7 @@ use Rattle.model.proofs.Bounds.{earliest-start-up-to, bound-up-to, latest-start
 use Rattle.jobs.specs.internal.JobRow.{jobsOfRows, word, mostExecutionAt}
 use Rattle.jobs.proofs.Jobs.{length-jobs, field-of}
 use Rattle.states.specs.internal.Slots.{stateOf}
-use Rattle.edges.specs.internal.Edges.{noLimit, limitWord}
+use Rattle.edges.specs.internal.Edges.{latestStartTime, noLimit, limitWord}
 use Rattle.edges.proofs.Edges.{higher-listed, last-in-word, same-edge, no-edge-found, a-time, edge-found}
 use Rattle.edges.proofs.edge_of.Statement.{statement}
 use Rattle.edges.proofs.edge_of.Tie as tie
@@ -34,7 +34,7 @@ earliest-start-requires c κs = search needs
 higher-priority-bound-requires : tie.Need-higher-priority-bound-requires
 higher-priority-bound-requires c κs =
     let p = c .before .before .before .before .before .pre in
-    (p .0 .0, p .0 .1, p .0 .3, p .0 .4, p .1 .2 .holders)
+    (p .0 .0, p .0 .1, p .0 .2, p .0 .3, p .1 .2 .holders)
 
 latest-start-requires : tie.Need-latest-start-requires
 latest-start-requires c κs = search needs
@@ -57,8 +57,8 @@ module _ (c : tie.After-latest-start) where
   every-job : s .args .k ≡ length js
   every-job = sym (length-jobs (now (s .args .rows)) (s .args .k))
 
-  early : earliestStart js σ (s .args .i) ≤ latestTime
-  early = earliest-start-up-to js latestTime (s .pre .0 .1 .setting .timed) σ (s .pre .0 .2) (s .args .i) (omega (arith, s .pre .0 .0, every-job))
+  early : earliestStart js σ (s .args .i) ≤ latestStartTime
+  early = earliest-start-up-to js latestTime longestRest (s .pre .0 .1 .setting .timed) (s .pre .0 .1 .setting .rests) σ (s .pre .0 .1 .bounded) (s .args .i) (omega (arith, s .pre .0 .0, every-job))
 
   -- the bound over the listed jobs is the higher-priority bound, as far as it is not past the work-conserving one
   higher-is : min (suc (s .args .bound)) (c .before .higher-priority-bound .result) ≡ min (suc (s .args .bound)) (limitWord (higherPriorityBound js σ (s .args .i)))
@@ -69,7 +69,7 @@ module _ (c : tie.After-latest-start) where
   latest-is : c .latest-start .result ≡ latestStartZ js σ (s .args .i)
   unfolding latestStartZ
   latest-is =
-      let timely : s .args .bound < noLimit = omega (arith, s .pre .1 .1, bound-up-to js latestTime (s .pre .0 .1 .setting .timed) σ (s .pre .0 .2)) in
+      let timely : s .args .bound < noLimit = omega (arith, s .pre .1 .1, bound-up-to js latestTime longestRest (s .pre .0 .1 .setting .timed) (s .pre .0 .1 .setting .rests) σ (s .pre .0 .1 .bounded)) in
       c .latest-start .ensures
       ∙ last-in-word (s .args .bound) (c .before .higher-priority-bound .result) (higherPriorityBound js σ (s .args .i)) timely higher-is
       ∙ ap (λ (x : ℕ). lastBefore x (higherPriorityBound js σ (s .args .i))) (s .pre .1 .1)
@@ -102,8 +102,8 @@ module _ (c : tie.Else1) where
   latest-time : toZ w64 (ofZ w64 (o .latest-start .result)) ≡ pos (latestStart (js o) (σ o) (s o .args .i))
   latest-time = read-back o ∙ a-time (js o) (σ o) (s o .args .i) (o .latest-start .result) (latest-is o) passed
 
-  last-moment : latestStart (js o) (σ o) (s o .args .i) ≤ latestTime
-  last-moment = latest-start-up-to (js o) latestTime (s o .pre .0 .1 .setting .timed) (σ o) (s o .pre .0 .2) (s o .args .i)
+  last-moment : latestStart (js o) (σ o) (s o .args .i) ≤ latestStartTime
+  last-moment = latest-start-up-to (js o) latestTime longestRest (s o .pre .0 .1 .setting .timed) (s o .pre .0 .1 .setting .rests) (σ o) (s o .pre .0 .1 .bounded) (s o .args .i)
 
   inside : s o .args .i < length (js o)
   inside = omega (arith, s o .pre .0 .0, every-job o)

@@ -18,7 +18,7 @@ use Rattle.jobs.specs.internal.Order.{precedence}
 use Rattle.states.specs.internal.Slots.{stateOf}
 use Rattle.edges.specs.internal.Edges.{limitWord, boundOver, moments, Holders}
 use Rattle.edges.proofs.Folds.{smallest-with, smallest-without}
-use Rattle.edges.proofs.Holders.{as-many, ready-in, job-in, job-inside, before-in}
+use Rattle.edges.proofs.Holders.{as-many, place-in, ready-in, job-in, job-inside, before-in}
 use Rattle.edges.proofs.higher_priority_bound.Statement.{statement}
 use Rattle.edges.proofs.higher_priority_bound.Tie as tie
 
@@ -72,7 +72,15 @@ certainly-ready-for-requires c κs =
     let h : t < length ws = omega arith in
     let few = p .1 .setting .jobs in
     let j = job-in js σ (s .args .k) few ws (p .4) t h in
-    (p .0, omega (arith, j, job-inside js σ (s .args .k) few ws (p .4) t h), p .1, p .2, p .3, ready-in js σ (s .args .k) few ws (p .4) t h ∙ ap (certainlyReady js σ) (sym j))
+    let place = place-in js σ (s .args .k) few ws (p .4) t h in (
+      p .0,
+      omega (arith, j, job-inside js σ (s .args .k) few ws (p .4) t h),
+      p .1,
+      p .2,
+      p .3,
+      ready-in js σ (s .args .k) few ws (p .4) t h ∙ ap (certainlyReady js σ) (sym j),
+      λ e. omega (arith, place, ap (precedence js) (e ∙ j), o .before .before .before .precedence .ensures .0),
+    )
 
 smaller-requires : tie.Need-smaller-requires Inv-loop μ-loop
 smaller-requires c κs = search needs

@@ -1,22 +1,22 @@
--- `edges::possibly_ready` meets its contract. The loop's invariant: the larger of `ready` and what the predecessors left give is the result.
+-- `edges::possibly_ready` meets its contract. The loop's invariant: the larger of `ready` and what the predecessors left give is what all give, as without rests.
 -- Assumes nothing.
-use Prim.Native.Nat.{ℕ, _-_}
+use Prim.Native.Nat.{_-_, max}
 use native.Mathlib.Omega.{arith}
 use denote.Ref.{now}
 use borrow.Author.Needs.{needs}
-use Rattle.model.specs.Folds.{all}
-use Rattle.model.specs.Jobs.{predecessors}
-use Rattle.model.specs.States.{earliest, finishOf}
-use Rattle.model.specs.Edges.{possiblyReady}
+use Rattle.model.specs.Folds.{largest, all}
+use Rattle.model.specs.Jobs.{job, predecessors}
 use Rattle.jobs.specs.internal.JobRow.{jobsOfRows}
 use Rattle.states.specs.internal.Slots.{stateOf}
 use Rattle.edges.proofs.Folds.{LargestLeft, largest-next, largest-done}
+use Rattle.edges.proofs.Rests.{earliestIn, possibly-counted}
 use Rattle.edges.proofs.possibly_ready.Statement.{statement}
 use Rattle.edges.proofs.possibly_ready.Tie as tie
 
 abbrev Inv-loop : tie.InvT-loop
 Inv-loop rows k s m i n ready₀ j₀ ready j =
-    LargestLeft all (λ (w : ℕ). earliest (finishOf (stateOf m k s) w)) (predecessors (jobsOfRows rows k) i) (possiblyReady (jobsOfRows rows k) (stateOf m k s) i) n ready j
+    LargestLeft all (earliestIn (stateOf m k s)) (predecessors (jobsOfRows rows k) i)
+    (max (job (jobsOfRows rows k) i .earliestRelease) (largest all (earliestIn (stateOf m k s)) (predecessors (jobsOfRows rows k) i))) n ready j
 
 abbrev μ-loop : tie.MeasureT-loop
 μ-loop rows k s m i n ready₀ j₀ ready j = n - j
@@ -28,7 +28,6 @@ earliest-release-requires : tie.Need-earliest-release-requires Inv-loop μ-loop
 earliest-release-requires c κs = search needs
 
 loop-holds : tie.Need-loop-holds Inv-loop μ-loop
-unfolding possiblyReady
 loop-holds c = (c .before .predecessor-count .ensures .0, rw (c .earliest-release .ensures))
 
 predecessor-requires : tie.Need-predecessor-requires Inv-loop μ-loop
@@ -49,16 +48,31 @@ loop-less c = search needs
 loop-again : tie.Need-loop-again Inv-loop μ-loop
 loop-again c =
     let a = c .before .before .before .before .before .before .before .before .before .args in
+    let js = jobsOfRows (now (a .rows)) (a .k) in
+    let σ = stateOf (a .m) (a .k) (now (a .s)) in
     let i = c .before .before .before .before .loop in
-    let w = c .before .before .predecessor in
     let x = c .before .earliest-finish in
-    largest-next all (λ (w : ℕ). earliest (finishOf (stateOf (a .m) (a .k) (now (a .s))) w)) (predecessors (jobsOfRows (now (a .rows)) (a .k)) (a .i)) (possiblyReady (jobsOfRows (now (a .rows)) (a .k)) (stateOf (a .m) (a .k) (now (a .s))) (a .i)) (c .before .before .before .before .before .before .predecessor-count .result) (i .ready) (i .j) (x .result) (c .larger .result) (i .inv) (omega arith) (rw (← w .ensures .0) (x .ensures)) (c .larger .ensures)
+    largest-next all (earliestIn σ) (predecessors js (a .i)) (max (job js (a .i) .earliestRelease) (largest all (earliestIn σ) (predecessors js (a .i))))
+    (c .before .before .before .before .before .before .predecessor-count .result) (i .ready) (i .j) (x .result) (c .larger .result) (i .inv) (omega arith)
+    (rw (← c .before .before .predecessor .ensures .0) (x .ensures)) (c .larger .ensures)
+
+possibly-rested-requires : tie.Need-possibly-rested-requires Inv-loop μ-loop
+possibly-rested-requires c κs = search needs
+
+larger-requires-2 : tie.Need-larger-requires-2 Inv-loop μ-loop
+larger-requires-2 c κs = search needs
 
 returns : tie.Need-returns Inv-loop μ-loop
 returns c =
-    let a = c .before .before .before .before .before .before .args in
-    let i = c .before .loop in
-    largest-done all (λ (w : ℕ). earliest (finishOf (stateOf (a .m) (a .k) (now (a .s))) w)) (predecessors (jobsOfRows (now (a .rows)) (a .k)) (a .i)) (possiblyReady (jobsOfRows (now (a .rows)) (a .k)) (stateOf (a .m) (a .k) (now (a .s))) (a .i)) (c .before .before .before .predecessor-count .result) (i .ready) (i .j) (i .inv) (omega arith)
+    let s = c .before .before .before .before .before .before .before .before in
+    let a = s .args in
+    let js = jobsOfRows (now (a .rows)) (a .k) in
+    let σ = stateOf (a .m) (a .k) (now (a .s)) in
+    let i = c .before .before .before .loop in
+    let all-counted = largest-done all (earliestIn σ) (predecessors js (a .i))
+    (max (job js (a .i) .earliestRelease) (largest all (earliestIn σ) (predecessors js (a .i))))
+    (c .before .before .before .before .before .predecessor-count .result) (i .ready) (i .j) (i .inv) (omega arith) in
+    possibly-counted js σ (a .i) (i .ready) (c .before .possibly-rested .result) (c .larger2 .result) all-counted (c .before .possibly-rested .ensures) (c .larger2 .ensures)
 
 pub possibly-ready-spec : {M : Type 1} → statement M
 possibly-ready-spec =
@@ -75,4 +89,6 @@ possibly-ready-spec =
     add-j
     loop-less
     loop-again
+    possibly-rested-requires
+    larger-requires-2
     returns)

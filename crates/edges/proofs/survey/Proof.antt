@@ -11,7 +11,7 @@ use lib.Seq.{take-all}
 use denote.Ref.{now}
 use borrow.Author.Needs.{needs}
 use borrow.Author.Tests.{leb-false}
-use Rattle.model.specs.Limits.{latestTime}
+use Rattle.model.specs.Limits.{latestTime, longestRest}
 use Rattle.model.specs.Folds.{all}
 use Rattle.model.specs.Jobs.{job}
 use Rattle.model.specs.Edges.{candidate, certainlyReady}
@@ -20,7 +20,7 @@ use Rattle.model.proofs.Bounds.{certainly-ready-up-to}
 use Rattle.jobs.specs.internal.JobRow.{jobsOfRows}
 use Rattle.jobs.proofs.Jobs.{length-jobs}
 use Rattle.states.specs.internal.Slots.{certainlyAt, stateOf}
-use Rattle.edges.specs.internal.Edges.{candidates, noLimit, limitWord, smallestIn, moments, holderWord, Holding}
+use Rattle.edges.specs.internal.Edges.{latestStartTime, candidates, noLimit, limitWord, smallestIn, moments, holderWord, Holding}
 use Rattle.edges.proofs.Listing.{few-listed, listed-candidate}
 use Rattle.edges.proofs.Folds.{smallest-with}
 use Rattle.edges.proofs.Edges.{first-certainly, bound-is}
@@ -69,11 +69,12 @@ cast-j : tie.Need-cast-j Inv-loop μ-loop
 cast-j c = omega (arith, below (c .before))
 
 -- it is certainly ready at a moment
-early : (c : tie.In-loop Inv-loop μ-loop) → certainlyReady (jobsOfRows (now (entry c .args .rows)) (entry c .args .k)) (stateOf (entry c .args .m) (entry c .args .k) (now (entry c .args .s))) (getD (now (entry c .args .list)) (c .before .loop .t) 0) ≤ latestTime
+early : (c : tie.In-loop Inv-loop μ-loop) → certainlyReady (jobsOfRows (now (entry c .args .rows)) (entry c .args .k)) (stateOf (entry c .args .m) (entry c .args .k) (now (entry c .args .s))) (getD (now (entry c .args .list)) (c .before .loop .t) 0) ≤ latestStartTime
 early c =
     let s = entry c in
     let js = jobsOfRows (now (s .args .rows)) (s .args .k) in
-    certainly-ready-up-to js latestTime (s .pre .0 .readable .setting .timed) (stateOf (s .args .m) (s .args .k) (now (s .args .s))) (s .pre .0 .bounded) _
+    let given = s .pre .0 .readable in
+    certainly-ready-up-to js latestTime longestRest (given .setting .timed) (given .setting .rests) (stateOf (s .args .m) (s .args .k) (now (s .args .s))) (given .bounded) _
     (omega (arith, below c, length-jobs (now (s .args .rows)) (s .args .k)))
 
 -- there is room for a word more
@@ -132,6 +133,7 @@ loop-again c =
     let o = c .before .before .before .before .before .before in
     let s = entry o in
     let a = s .args in
+    let given = s .pre .0 .readable in
     let i = o .before .loop in
     let js = jobsOfRows (now (a .rows)) (a .k) in
     let σ = stateOf (a .m) (a .k) (now (a .s)) in
@@ -151,7 +153,7 @@ loop-again c =
       omega (arith, ind-le b, i .inv .1),
       simp length-set (i .inv .2),
       f .ensures ∙ ap (min (i .first)) (r .ensures) ∙ smallest-with all (certainlyReady js σ) list (i .t) (i .first) h (i .inv .3) refl (omega (arith, early o)),
-      holding-next js (s .pre .0 .readable .setting .timed) σ (s .pre .0 .bounded) (a .k) (sym (length-jobs (now (a .rows)) (a .k))) (suc (max free (i .first)))
+      holding-next js (given .setting .timed) (given .setting .rests) σ (given .bounded) (a .k) (sym (length-jobs (now (a .rows)) (a .k))) (suc (max free (i .first)))
           (suc (max free (f .result))) list (i .t) h (below o) less (i .holders) (i .n) (p .result * moments + r .result) (omega (arith, room o, i .inv .2)) word b later (i .inv .4),
     )
 
@@ -169,6 +171,7 @@ returns : tie.Need-returns Inv-loop μ-loop
 returns c =
     let s = c .before .before .before .before .before .before .before .before in
     let a = s .args in
+    let given = s .pre .0 .readable in
     let i = c .before .before .loop in
     let js = jobsOfRows (now (a .rows)) (a .k) in
     let σ = stateOf (a .m) (a .k) (now (a .s)) in
@@ -176,8 +179,8 @@ returns c =
     let whole : take (i .t) (now (a .list)) ≡ candidates js σ (a .k) = take-all (i .t) (now (a .list)) (omega arith) ∙ s .pre .0 .listed in
     let ready : i .first ≡ limitWord (smallestIn all (certainlyReady js σ) (candidates js σ (a .k))) =
     i .inv .3 ∙ ap (λ (l : List ℕ). limitWord (smallestIn all (certainlyReady js σ) l)) whole in
-    let bound = c .bound-of .ensures ∙ bound-is js σ (a .k) (sym (length-jobs (now (a .rows)) (a .k))) (s .pre .0 .readable .setting .timed) (s .pre .0 .bounded) free (i .first)
-    (sym (first-certainly (a .m) (a .k) (now (a .s)) (s .pre .0 .readable .setting .cores))) ready in
+    let bound = c .bound-of .ensures ∙ bound-is js σ (a .k) (sym (length-jobs (now (a .rows)) (a .k))) (given .setting .timed) (given .setting .rests) (given .bounded) free (i .first)
+    (sym (first-certainly (a .m) (a .k) (now (a .s)) (given .setting .cores))) ready in
     let nearer : suc (c .bound-of .result) ≤ suc (max free (i .first)) = omega (arith, c .bound-of .ensures, not-past (eqb (i .first) noLimit) free (i .first)) in (
       bound,
       (

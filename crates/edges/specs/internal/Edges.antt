@@ -3,10 +3,11 @@ use Prim.Native.Nat.{ℕ, zero, suc, _+_, _*_, _<_, _≤_, min}
 use mathlib.Core.Path.{_≡_}
 use mathlib.Core.Bool.{Bool, true, cond}
 use mathlib.Core.List.{List, [], _∷_, _++_, map, foldl}
+use lib.Dec.{eqb}
 use lib.ListN.{getD, length}
-use Rattle.model.specs.Limits.{latestTime}
-use Rattle.model.specs.Folds.{member, Limit, infinite, finite, smaller}
-use Rattle.model.specs.Jobs.{Job, predecessors, before}
+use Rattle.model.specs.Limits.{latestTime, longestRest}
+use Rattle.model.specs.Folds.{member, largest, all, Limit, infinite, finite, smaller}
+use Rattle.model.specs.Jobs.{Job, job, nearest, asList, predecessors, before}
 use Rattle.model.specs.States.{State}
 use Rattle.model.specs.Edges.{candidate, certainlyReady, certainlyReadyBeside, earliestStart, eligible, earliestFinish, latestFinish}
 use Rattle.model.specs.Eligibility.{inOrder}
@@ -19,10 +20,15 @@ use Rattle.states.specs.internal.Slots.{inSet, stateOf}
 use Rattle.edges.specs.declared.Edge.{Edge}
 use Rattle.edges.specs.declared.Edge.the-variants.{NotEligible, Starts}
 
--- the rows of a job set, and the words of a state
+-- the rows of a job set, and the words of a state, whose times are bounded
 pub record Readable (rows : List ℕ) (k : ℕ) (s : List ℕ) (m : ℕ) : Type 0 where
   pub setting : Setting rows k m
   pub words : stateWords m k ≤ length s
+  pub bounded : Bounded (jobsOfRows rows k) latestTime (stateOf m k s)
+
+-- no job starts later, for a bell may have to rest after the latest of these times
+abbrev pub latestStartTime : ℕ
+latestStartTime = latestTime + longestRest
 
 -- ---- the sets of predecessors
 
@@ -46,11 +52,17 @@ listBelow p (suc n) = cond (p n) (listBelow p n ++ (n ∷ [])) (listBelow p n)
 abbrev pub candidates : List Job → State → ℕ → List ℕ
 candidates js σ k = listBelow (candidate js σ) k
 
--- a state whose edges are asked for: its times are bounded, and its candidates listed
+-- a state whose edges are asked for: its candidates are listed
 pub record Prepared (rows : List ℕ) (k : ℕ) (s : List ℕ) (m : ℕ) (list : List ℕ) : Type 0 where
   pub readable : Readable rows k s m
-  pub bounded : Bounded (jobsOfRows rows k) latestTime (stateOf m k s)
   pub listed : list ≡ candidates (jobsOfRows rows k) (stateOf m k s) k
+
+-- ---- rests
+
+-- from when on the bell of job i has rested, by these finish times: that of the job before it on the bell, and the rest; 0 where there is none
+unfoldable pub restedAfter : List Job → ℕ → (ℕ → ℕ) → ℕ
+unfolding largest nearest
+restedAfter js i finish = cond (eqb (job js i .rest) 0) 0 (largest all (λ w. finish w + job js i .rest) (asList (nearest js (job js i .bell) i)))
 
 -- ---- the bounds
 

@@ -2,6 +2,6 @@
 use Prim.Native.Nat.{ℕ}
 use Rattle.format.specs.Phrase.{Bell}
 
-abbrev pub bellWith : ℕ → ℕ → ℕ → ℕ → ℕ → Bell
-bellWith written transposition least most priority =
-    record { written = written; transposition = transposition; leastExecution = least; mostExecution = most; priority = priority }
+abbrev pub bellWith : ℕ → ℕ → ℕ → ℕ → ℕ → ℕ → Bell
+bellWith written transposition least most rest priority =
+    record { written = written; transposition = transposition; leastExecution = least; mostExecution = most; rest = rest; priority = priority }

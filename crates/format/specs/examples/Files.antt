@@ -34,8 +34,21 @@ cut n count = take n (set fileP 4 count)
 abbrev listing : ℕ → ℕ → List ℕ
 listing key byte = set (set (set fileP 4 0x2E) 36 0x0E) 37 key ++ byte ∷ []
 
+-- without a rest
 abbrev pub bell : ℕ → ℕ → ℕ → ℕ → ℕ → Bell
-bell n t ca cb p = record { written = n; transposition = t; leastExecution = ca; mostExecution = cb; priority = p }
+bell n t ca cb p = record { written = n; transposition = t; leastExecution = ca; mostExecution = cb; rest = 0; priority = p }
+
+-- a bell with another rest
+abbrev pub resting : ℕ → Bell → Bell
+resting r b =
+    record {
+      written = b .written;
+      transposition = b .transposition;
+      leastExecution = b .leastExecution;
+      mostExecution = b .mostExecution;
+      rest = r;
+      priority = b .priority;
+    }
 
 abbrev pub note : ℕ → ℕ → ℕ → ℕ → List ℕ → Note
 note key ra rb d listed = record { key = key; earliestRelease = ra; latestRelease = rb; deadline = d; listed = listed }
@@ -112,8 +125,8 @@ abbrev ends : List Case
 ends =
     -- the empty file has no version to be wrong
     row [] (refused 2 0)
-    -- there is no version 3, whatever follows
-    ∷ row (set fileP 0 0x03) (refused 1 0)
+    -- there is no version 4, whatever follows
+    ∷ row (set fileP 0 0x04) (refused 1 0)
     -- a count that is right in its last byte only
     ∷ row (set fileP 1 0x01) (refused 2 0)
     ∷ row (set fileP 3 0x01) (refused 2 0)

@@ -6,6 +6,7 @@ use Rattle.format.specs.Fits.{All, Fits}
 use Rattle.format.specs.Writing.{body}
 use Rattle.format.specs.examples.Files.{bell, note, bell0, bell1, note0, phraseP, noted, belled}
 use Rattle.format.specs.examples.Shifts.{shifted}
+use Rattle.format.specs.examples.Rests.{early}
 
 -- ---- P fits, and so does a phrase that the rules refuse: out of range, but not too wide
 
@@ -15,8 +16,8 @@ p-fits =
     record {
       head = (omega arith, (omega arith, (omega arith, (omega arith, (omega arith, tt)))));
       bells = (
-        (omega arith, (omega arith, (omega arith, (omega arith, (omega arith, tt))))),
-        ((omega arith, (omega arith, (omega arith, (omega arith, (omega arith, tt))))), tt),
+        (omega arith, (omega arith, (omega arith, (omega arith, (omega arith, (omega arith, tt)))))),
+        ((omega arith, (omega arith, (omega arith, (omega arith, (omega arith, (omega arith, tt)))))), tt),
       );
       count = omega arith;
       notes = (
@@ -29,7 +30,7 @@ p-fits =
 
 pub wide-rank : Fits (belled (bell 60 0 2 2 256 ∷ bell1 ∷ [])) → ⊥
 unfolding All
-wide-rank f = omega (arith, f .bells .0 .1 .1 .1 .1 .0)
+wide-rank f = omega (arith, f .bells .0 .1 .1 .1 .1 .1 .0)
 
 pub wide-hold : Fits (belled (bell0 ∷ bell 62 12 4 65536 2 ∷ [])) → ⊥
 unfolding All
@@ -55,8 +56,8 @@ far-shift =
     record {
       head = (omega arith, (omega arith, (omega arith, (omega arith, (omega arith, tt)))));
       bells = (
-        (omega arith, (omega arith, (omega arith, (omega arith, (omega arith, tt))))),
-        ((omega arith, (omega arith, (omega arith, (omega arith, (omega arith, tt))))), tt),
+        (omega arith, (omega arith, (omega arith, (omega arith, (omega arith, (omega arith, tt)))))),
+        ((omega arith, (omega arith, (omega arith, (omega arith, (omega arith, (omega arith, tt)))))), tt),
       );
       count = omega arith;
       notes = tt;
@@ -69,3 +70,26 @@ wide-shift f = omega (arith, f .head .1 .1 .1 .0)
 pub first-shifted : Fits (shifted 1 1 []) → ⊥
 unfolding layout
 first-shifted f = omega (arith, f .head .1 .1 .1 .0)
+
+-- ---- the rest: two bytes fit in version 3, also 65535, which the rules refuse; where the version has no bytes for it, only 0 does
+
+pub far-rest : Fits (early 3 65535)
+unfolding layout body All
+far-rest =
+    record {
+      head = (omega arith, (omega arith, (omega arith, (omega arith, (omega arith, tt)))));
+      bells = (
+        (omega arith, (omega arith, (omega arith, (omega arith, (omega arith, (omega arith, tt)))))),
+        ((omega arith, (omega arith, (omega arith, (omega arith, (omega arith, (omega arith, tt)))))), tt),
+      );
+      count = omega arith;
+      notes = tt;
+    }
+
+pub wide-rest : Fits (early 3 65536) → ⊥
+unfolding layout All
+wide-rest f = omega (arith, f .bells .0 .1 .1 .1 .1 .0)
+
+pub second-rested : Fits (early 2 1) → ⊥
+unfolding layout All
+second-rested f = omega (arith, f .bells .0 .1 .1 .1 .1 .0)

@@ -58,6 +58,7 @@ job ra rb ca cb d p bell listed =
       deadline = d;
       priority = p;
       bell = bell;
+      rest = 0;
       listed = listed;
     }
 

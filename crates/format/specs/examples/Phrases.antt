@@ -30,7 +30,7 @@ abbrev cored : ℕ → Phrase
 cored m = record { version = 1; cores = m; shift = 0; bells = bell0 ∷ bell1 ∷ []; notes = note0 ∷ note1 ∷ [] }
 
 -- so many bells, a semitone apart, from a key on
-abbrev scale : ℕ → ℕ → List Bell
+abbrev pub scale : ℕ → ℕ → List Bell
 scale key zero = []
 scale key (suc n) = bell key 0 2 2 1 ∷ scale (key + 1) n
 
@@ -38,9 +38,9 @@ abbrev counts : List Case
 counts =
     passes phraseP
     ∷ passes phraseQ
-    -- there are two versions; 257 is 1 in one byte
+    -- there are three versions; 257 is 1 in one byte
     ∷ refuses (versioned 0) 1 0
-    ∷ refuses (versioned 3) 1 0
+    ∷ refuses (versioned 4) 1 0
     ∷ refuses (versioned 257) 1 0
     -- eight cores, none and nine; 257 is 1 in one byte
     ∷ passes (cored 8)

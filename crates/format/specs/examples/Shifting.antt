@@ -8,6 +8,7 @@ use Rattle.format.specs.Fits.{All}
 use Rattle.format.specs.Shifting.{heard, opposite, shiftedBy, Movable}
 use Rattle.format.specs.examples.Files.{note, note0, note1, phraseP, noted}
 use Rattle.format.specs.examples.Shifts.{shifted, phraseS}
+use Rattle.format.specs.examples.Rests.{phraseR}
 
 -- S, written as 64 and 78 with a shift of -4, is heard as P; a shift up, with a number listed; and a key that falls below zero
 pub heardTable :
@@ -40,6 +41,9 @@ table =
     ∷ row 1 (noted (note 60 1 2 9 [] ∷ note 74 3 4 5 (0 ∷ []) ∷ [])) (shifted 2 1 (note 59 1 2 9 [] ∷ note 73 3 4 5 (0 ∷ []) ∷ []))
     -- no note
     ∷ row 4 (noted []) (shifted 2 4 [])
+    -- versions 2 and 3 stay, and rests do
+    ∷ row 252 (shifted 2 0 (note0 ∷ note1 ∷ [])) phraseS
+    ∷ row 252 (record { version = 3; cores = 1; shift = 0; bells = phraseR .bells; notes = note0 ∷ note1 ∷ [] }) phraseR
     ∷ []
 
 -- Every row holds.

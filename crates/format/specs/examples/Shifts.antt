@@ -148,9 +148,9 @@ readTable =
     ∷ read (set fileS 23 0x0C) (refused 9 23)
     ∷ read (set fileS 28 0x06) (refused 11 23)
     ∷ read (set fileS 4 0x2F ++ 0x00 ∷ []) (refused 3 51)
-    -- as version 1 its shift is the number of bells, and there is no version 3
+    -- as version 1 its shift is the number of bells, and there is no version 4
     ∷ read (set fileS 0 0x01) (refused 5 6)
-    ∷ read (set fileS 0 0x03) (refused 1 0)
+    ∷ read (set fileS 0 0x04) (refused 1 0)
     ∷ []
 
 -- Every row holds.

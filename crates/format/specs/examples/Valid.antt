@@ -10,8 +10,9 @@ use Rattle.format.specs.Layout.{isVersion, layout}
 use Rattle.format.specs.Phrase.{Bell, sounding, Note, Phrase, findFrom}
 use Rattle.format.specs.Rules.{isShift, bellInRange, areTimes, rises}
 use Rattle.format.specs.Valid.{Each, Valid}
-use Rattle.format.specs.examples.Files.{bell, note, bell0, bell1, note0, phraseQ}
+use Rattle.format.specs.examples.Files.{bell, resting, note, bell0, bell1, note0, phraseQ}
 use Rattle.format.specs.examples.Shifts.{phraseS}
+use Rattle.format.specs.examples.Rests.{phraseR}
 
 abbrev soundingFor : ℕ → ℕ → ℕ
 soundingFor n t = sounding (bell n t 1 1 0)
@@ -67,6 +68,25 @@ s-valid =
       };
     }
 
+-- rests of 300 and 5000 in version 3
+pub r-valid : Valid phraseR
+unfolding isVersion layout isShift Each bellInRange findFrom areTimes rises
+r-valid =
+    record {
+      version = refl;
+      fields = record {
+        cores = omega arith;
+        shift = refl;
+        bellCount = omega arith;
+        bells = (record { inRange = refl; alone = refl }, (record { inRange = refl; alone = refl }, tt));
+        noteCount = omega arith;
+        notes = (
+          record { sounds = refl; times = refl; few = omega arith; rising = refl },
+          (record { sounds = refl; times = refl; few = omega arith; rising = refl }, tt),
+        );
+      };
+    }
+
 -- a phrase of a version, on so many cores, with a shift
 abbrev phraseOn : ℕ → ℕ → ℕ → List Bell → List Note → Phrase
 phraseOn v m t bells notes = record { version = v; cores = m; shift = t; bells = bells; notes = notes }
@@ -74,10 +94,10 @@ phraseOn v m t bells notes = record { version = v; cores = m; shift = t; bells =
 abbrev two : List Bell
 two = bell0 ∷ bell1 ∷ []
 
--- there is no version 3
-pub third-version : Valid (phraseOn 3 1 0 two []) → ⊥
+-- there is no version 4
+pub fourth-version : Valid (phraseOn 4 1 0 two []) → ⊥
 unfolding isVersion
-third-version v = absurd (let e : false ≡ true = v .version in let z : _≡_ {A = ℕ} 0 1 = cc in omega arith)
+fourth-version v = absurd (let e : false ≡ true = v .version in let z : _≡_ {A = ℕ} 0 1 = cc in omega arith)
 
 -- no core, and nine
 pub no-core : Valid (phraseOn 1 0 0 two []) → ⊥
@@ -94,6 +114,15 @@ first-shifted v = absurd (let e : false ≡ true = v .fields .shift in let z : _
 pub far-shifted : Valid (phraseOn 2 1 25 two []) → ⊥
 unfolding layout isShift
 far-shifted v = absurd (let e : false ≡ true = v .fields .shift in let z : _≡_ {A = ℕ} 0 1 = cc in omega arith)
+
+-- a rest in version 2, and one of 5001
+pub second-rested : Valid (phraseOn 2 1 0 (bell0 ∷ resting 1 bell1 ∷ []) []) → ⊥
+unfolding layout Each bellInRange
+second-rested v = absurd (let e : false ≡ true = v .fields .bells .1 .0 .inRange in let z : _≡_ {A = ℕ} 0 1 = cc in omega arith)
+
+pub long-rested : Valid (phraseOn 3 1 0 (resting 5001 bell0 ∷ []) []) → ⊥
+unfolding layout Each bellInRange
+long-rested v = absurd (let e : false ≡ true = v .fields .bells .0 .inRange in let z : _≡_ {A = ℕ} 0 1 = cc in omega arith)
 
 -- no bell, and 97
 pub no-bell : Valid (phraseOn 1 1 0 [] []) → ⊥

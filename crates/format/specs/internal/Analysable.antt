@@ -6,7 +6,7 @@ use lib.ListN.{length}
 use Rattle.model.specs.Folds.{member}
 use Rattle.model.specs.Jobs.{Job, job, predecessors}
 use Rattle.model.specs.Guarantee.{WellFormed}
-use Rattle.model.specs.Limits.{mostCores, longestExecution, latestTime}
+use Rattle.model.specs.Limits.{mostCores, longestExecution, longestRest, latestTime}
 use Rattle.format.specs.Layout.{layout, mostListed}
 use Rattle.format.specs.Phrase.{Phrase}
 use Rattle.format.specs.Rules.{lowestKey}
@@ -17,6 +17,7 @@ pub record InRanges (j : Job) : Type 0 where
   pub execution : (1 ≤ j .leastExecution) × (j .leastExecution ≤ j .mostExecution) × (j .mostExecution ≤ longestExecution)
   pub release : (j .earliestRelease ≤ j .latestRelease) × (j .latestRelease ≤ latestTime)
   pub deadline : j .deadline ≤ latestTime
+  pub rest : j .rest ≤ longestRest
 
 -- a job waits for those that its note lists, and for one of its bell
 abbrev pub mostPredecessors : ℕ

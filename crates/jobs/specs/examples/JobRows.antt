@@ -19,22 +19,18 @@ pub record Case : Type 0 where
 abbrev row : Phrase → List ℕ → Case
 row x words = record { phrase = x; expected = words }
 
--- the word beside the predecessors
-abbrev beside : List ℕ
-beside = 0 ∷ []
-
--- A row has 16 words: ra, rb, ca, cb, d, p; the number of predecessors, and five of them; a zero; bell, the number of those listed, and a zero.
+-- A row has 16 words: ra, rb, ca, cb, d, p; the number of predecessors, and five of them; rest, bell, the number of those listed, and a zero.
 abbrev rowsP : List ℕ
 rowsP =
-    (0 ∷ 5 ∷ 2 ∷ 2 ∷ 7 ∷ 1 ∷ []) ++ (0 ∷ 0 ∷ 0 ∷ 0 ∷ 0 ∷ 0 ∷ []) ++ beside ++ (0 ∷ 0 ∷ 0 ∷ [])
-    ++ (0 ∷ 0 ∷ 4 ∷ 4 ∷ 6 ∷ 2 ∷ []) ++ (0 ∷ 0 ∷ 0 ∷ 0 ∷ 0 ∷ 0 ∷ []) ++ beside ++ (1 ∷ 0 ∷ 0 ∷ [])
+    (0 ∷ 5 ∷ 2 ∷ 2 ∷ 7 ∷ 1 ∷ []) ++ (0 ∷ 0 ∷ 0 ∷ 0 ∷ 0 ∷ 0 ∷ []) ++ (0 ∷ 0 ∷ 0 ∷ 0 ∷ [])
+    ++ (0 ∷ 0 ∷ 4 ∷ 4 ∷ 6 ∷ 2 ∷ []) ++ (0 ∷ 0 ∷ 0 ∷ 0 ∷ 0 ∷ 0 ∷ []) ++ (0 ∷ 1 ∷ 0 ∷ 0 ∷ [])
 
 -- job 2 waits for job 0 of its bell; job 3 for those that it lists, and once more for job 2 of its bell
 abbrev rowsQ : List ℕ
 rowsQ =
     rowsP
-    ++ (1 ∷ 2 ∷ 2 ∷ 2 ∷ 9 ∷ 1 ∷ []) ++ (1 ∷ 0 ∷ 0 ∷ 0 ∷ 0 ∷ 0 ∷ []) ++ beside ++ (0 ∷ 0 ∷ 0 ∷ [])
-    ++ (66051 ∷ 263430 ∷ 2 ∷ 2 ∷ 460809 ∷ 1 ∷ []) ++ (3 ∷ 0 ∷ 2 ∷ 2 ∷ 0 ∷ 0 ∷ []) ++ beside ++ (0 ∷ 2 ∷ 0 ∷ [])
+    ++ (1 ∷ 2 ∷ 2 ∷ 2 ∷ 9 ∷ 1 ∷ []) ++ (1 ∷ 0 ∷ 0 ∷ 0 ∷ 0 ∷ 0 ∷ []) ++ (0 ∷ 0 ∷ 0 ∷ 0 ∷ [])
+    ++ (66051 ∷ 263430 ∷ 2 ∷ 2 ∷ 460809 ∷ 1 ∷ []) ++ (3 ∷ 0 ∷ 2 ∷ 2 ∷ 0 ∷ 0 ∷ []) ++ (0 ∷ 0 ∷ 2 ∷ 0 ∷ [])
 
 -- job 2 lists job 0, and waits for job 1 of its bell too; the executions are ranges
 abbrev phraseL : Phrase
@@ -42,9 +38,9 @@ phraseL = phrase (bell 60 0 2 3 9 ∷ bell 62 12 4 5 7 ∷ []) (note0 ∷ note1 
 
 abbrev rowsL : List ℕ
 rowsL =
-    (0 ∷ 5 ∷ 2 ∷ 3 ∷ 7 ∷ 9 ∷ []) ++ (0 ∷ 0 ∷ 0 ∷ 0 ∷ 0 ∷ 0 ∷ []) ++ beside ++ (0 ∷ 0 ∷ 0 ∷ [])
-    ++ (0 ∷ 0 ∷ 4 ∷ 5 ∷ 6 ∷ 7 ∷ []) ++ (0 ∷ 0 ∷ 0 ∷ 0 ∷ 0 ∷ 0 ∷ []) ++ beside ++ (1 ∷ 0 ∷ 0 ∷ [])
-    ++ (11 ∷ 12 ∷ 4 ∷ 5 ∷ 13 ∷ 7 ∷ []) ++ (2 ∷ 0 ∷ 1 ∷ 0 ∷ 0 ∷ 0 ∷ []) ++ beside ++ (1 ∷ 1 ∷ 0 ∷ [])
+    (0 ∷ 5 ∷ 2 ∷ 3 ∷ 7 ∷ 9 ∷ []) ++ (0 ∷ 0 ∷ 0 ∷ 0 ∷ 0 ∷ 0 ∷ []) ++ (0 ∷ 0 ∷ 0 ∷ 0 ∷ [])
+    ++ (0 ∷ 0 ∷ 4 ∷ 5 ∷ 6 ∷ 7 ∷ []) ++ (0 ∷ 0 ∷ 0 ∷ 0 ∷ 0 ∷ 0 ∷ []) ++ (0 ∷ 1 ∷ 0 ∷ 0 ∷ [])
+    ++ (11 ∷ 12 ∷ 4 ∷ 5 ∷ 13 ∷ 7 ∷ []) ++ (2 ∷ 0 ∷ 1 ∷ 0 ∷ 0 ∷ 0 ∷ []) ++ (0 ∷ 1 ∷ 1 ∷ 0 ∷ [])
 
 -- jobs 0, 2, 4 and 5 are of bell 0: each waits for the nearest before it, not the first; job 5 lists four more
 abbrev phraseF : Phrase
@@ -53,10 +49,10 @@ phraseF = noted (note0 ∷ note1 ∷ note 60 1 2 9 [] ∷ note 74 2 3 9 [] ∷ n
 abbrev rowsF : List ℕ
 rowsF =
     rowsP
-    ++ (1 ∷ 2 ∷ 2 ∷ 2 ∷ 9 ∷ 1 ∷ []) ++ (1 ∷ 0 ∷ 0 ∷ 0 ∷ 0 ∷ 0 ∷ []) ++ beside ++ (0 ∷ 0 ∷ 0 ∷ [])
-    ++ (2 ∷ 3 ∷ 4 ∷ 4 ∷ 9 ∷ 2 ∷ []) ++ (1 ∷ 1 ∷ 0 ∷ 0 ∷ 0 ∷ 0 ∷ []) ++ beside ++ (1 ∷ 0 ∷ 0 ∷ [])
-    ++ (3 ∷ 4 ∷ 2 ∷ 2 ∷ 9 ∷ 1 ∷ []) ++ (1 ∷ 2 ∷ 0 ∷ 0 ∷ 0 ∷ 0 ∷ []) ++ beside ++ (0 ∷ 0 ∷ 0 ∷ [])
-    ++ (4 ∷ 5 ∷ 2 ∷ 2 ∷ 9 ∷ 1 ∷ []) ++ (5 ∷ 0 ∷ 1 ∷ 2 ∷ 3 ∷ 4 ∷ []) ++ beside ++ (0 ∷ 4 ∷ 0 ∷ [])
+    ++ (1 ∷ 2 ∷ 2 ∷ 2 ∷ 9 ∷ 1 ∷ []) ++ (1 ∷ 0 ∷ 0 ∷ 0 ∷ 0 ∷ 0 ∷ []) ++ (0 ∷ 0 ∷ 0 ∷ 0 ∷ [])
+    ++ (2 ∷ 3 ∷ 4 ∷ 4 ∷ 9 ∷ 2 ∷ []) ++ (1 ∷ 1 ∷ 0 ∷ 0 ∷ 0 ∷ 0 ∷ []) ++ (0 ∷ 1 ∷ 0 ∷ 0 ∷ [])
+    ++ (3 ∷ 4 ∷ 2 ∷ 2 ∷ 9 ∷ 1 ∷ []) ++ (1 ∷ 2 ∷ 0 ∷ 0 ∷ 0 ∷ 0 ∷ []) ++ (0 ∷ 0 ∷ 0 ∷ 0 ∷ [])
+    ++ (4 ∷ 5 ∷ 2 ∷ 2 ∷ 9 ∷ 1 ∷ []) ++ (5 ∷ 0 ∷ 1 ∷ 2 ∷ 3 ∷ 4 ∷ []) ++ (0 ∷ 0 ∷ 4 ∷ 0 ∷ [])
 
 abbrev pub table : List Case
 table = row phraseP rowsP ∷ row phraseQ rowsQ ∷ row phraseL rowsL ∷ row phraseF rowsF ∷ row (noted []) [] ∷ []

@@ -2,10 +2,10 @@
 use Prim.Native.Nat.{ℕ, _+_, _*_, _≤_, _<_}
 use mathlib.Core.Path.{_≡_}
 use mathlib.Core.List.{List, [], _∷_, _++_}
-use lib.ListN.{getD, length, take, drop, replicate}
-use Rattle.model.specs.Limits.{mostJobs, mostCores, latestTime, longestExecution}
+use lib.ListN.{getD, length, take, drop}
+use Rattle.model.specs.Limits.{mostJobs, mostCores, latestTime, longestExecution, longestRest}
 use Rattle.model.specs.Jobs.{Job, job, predecessors}
-use Rattle.model.specs.internal.Bounds.{TimedUpTo}
+use Rattle.model.specs.internal.Bounds.{TimedUpTo, RestsUpTo}
 use Rattle.words.specs.Tabulate.{tabulate}
 use Rattle.words.specs.Padded.{padded}
 use Rattle.format.specs.Bytes.{records}
@@ -32,23 +32,19 @@ deadlineAt = 4
 abbrev pub priorityAt : ℕ
 priorityAt = 5
 
--- the number of predecessors; the predecessors, first those that the note lists and last the one of the same bell; and a word for what is between
--- the two jobs of a bell, which is zero
+-- the number of predecessors, and the predecessors, first those that the note lists and last the one of the same bell
 abbrev pub predecessorCountAt : ℕ
 predecessorCountAt = 6
 
 abbrev pub predecessorsAt : ℕ
 predecessorsAt = 7
 
-abbrev pub besideAt : ℕ
-besideAt = predecessorsAt + mostPredecessors
+-- the rest, the bell, and the number of predecessors that the note lists
+abbrev pub restAt : ℕ
+restAt = predecessorsAt + mostPredecessors
 
-abbrev pub besideWords : ℕ
-besideWords = 1
-
--- the bell, and the number of predecessors that the note lists
 abbrev pub jobBellAt : ℕ
-jobBellAt = besideAt + besideWords
+jobBellAt = restAt + 1
 
 abbrev pub jobListedAt : ℕ
 jobListedAt = jobBellAt + 1
@@ -65,7 +61,7 @@ jobRow js i =
     ∷ job js i .priority
     ∷ length (predecessors js i)
     ∷ padded mostPredecessors (predecessors js i)
-    ++ (replicate besideWords 0 ++ job js i .bell ∷ length (job js i .listed) ∷ 0 ∷ [])
+    ++ (job js i .rest ∷ job js i .bell ∷ length (job js i .listed) ∷ 0 ∷ [])
 
 -- of the first n jobs
 unfoldable pub jobRows : List Job → ℕ → List ℕ
@@ -86,6 +82,7 @@ jobAt rows i =
       deadline = word rows i deadlineAt;
       priority = word rows i priorityAt;
       bell = word rows i jobBellAt;
+      rest = word rows i restAt;
       listed = take (word rows i jobListedAt) (drop (i * rowWords + predecessorsAt) rows);
     }
 
@@ -108,4 +105,5 @@ pub record Setting (rows : List ℕ) (k m : ℕ) : Type 0 where
   pub cores : 1 ≤ m
   pub few-cores : m ≤ mostCores
   pub timed : TimedUpTo latestTime (jobsOfRows rows k)
+  pub rests : RestsUpTo longestRest (jobsOfRows rows k)
   pub executions : (i : ℕ) → i < k → (1 ≤ word rows i leastExecutionAt) × (word rows i mostExecutionAt ≤ longestExecution)

@@ -6,7 +6,7 @@ use denote.Ref.{now}
 use borrow.Author.Needs.{needs}
 use Rattle.model.specs.Jobs.{job, predecessors}
 use Rattle.words.specs.internal.Placed.{placed}
-use Rattle.jobs.specs.internal.JobRow.{predecessorCountAt, besideAt}
+use Rattle.jobs.specs.internal.JobRow.{predecessorCountAt, restAt}
 use Rattle.jobset.specs.internal.Making.{jobsHeld, predecessorWords, originWords}
 use Rattle.jobset.proofs.Held.{few-predecessors, row-made}
 use Rattle.jobset.proofs.write_job.Statement.{statement}
@@ -31,7 +31,7 @@ returns c =
     let js = jobsHeld t in
     let i = s .args .i in
     c .before .before .write-origin .ensures
-    ∙ ap (λ (r : List ℕ). placed r besideAt (originWords (job js i)))
+    ∙ ap (λ (r : List ℕ). placed r restAt (originWords (job js i)))
     (c .before .before .before .before .before .before .write-predecessors .ensures ∙ ap (λ (r : List ℕ). placed r predecessorCountAt (predecessorWords (predecessors js i))) (c .before .before .before .before .before .before .before .before .before .before .write-demand .ensures))
     ∙ row-made js i (now (s .args .row)) (few-predecessors t (s .pre .0) i (s .pre .1)) (s .pre .2)
 

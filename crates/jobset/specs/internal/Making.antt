@@ -1,14 +1,13 @@
 -- The rows of a phrase's jobs while they are made from its table. Assumes nothing.
 use Prim.Native.Nat.{ℕ}
-use mathlib.Core.List.{List, [], _∷_, _++_}
+use mathlib.Core.List.{List, [], _∷_}
 use mathlib.Core.Option.{Option, none, some}
-use lib.ListN.{length, replicate}
+use lib.ListN.{length}
 use Rattle.model.specs.Jobs.{Job}
 use Rattle.words.specs.Padded.{padded}
 use Rattle.format.specs.Jobs.{jobsOf}
 use Rattle.format.specs.internal.Analysable.{mostPredecessors}
 use Rattle.rows.specs.PhraseTable.{phraseOf}
-use Rattle.jobs.specs.internal.JobRow.{besideWords}
 use Rattle.jobset.specs.declared.Found.{Found}
 use Rattle.jobset.specs.declared.Found.the-variants.{At, Nothing}
 
@@ -30,4 +29,4 @@ unfoldable pub predecessorWords : List ℕ → List ℕ
 predecessorWords l = length l ∷ padded mostPredecessors l
 
 unfoldable pub originWords : Job → List ℕ
-originWords j = replicate besideWords 0 ++ j .bell ∷ length (j .listed) ∷ 0 ∷ []
+originWords j = j .rest ∷ j .bell ∷ length (j .listed) ∷ 0 ∷ []

@@ -11,7 +11,7 @@ use Rattle.model.specs.Jobs.{Job}
 use Rattle.model.specs.Dispatch.{Scenario, waiting, running, done, status, run}
 use Rattle.model.specs.States.{Range, empty, range, latest}
 use Rattle.model.specs.Guarantee.{WellFormed, Admissible, statusAt, Contains, Overlap, Kept}
-use Rattle.model.specs.examples.Marked.{stroke, onOwnBells, m1, phraseP}
+use Rattle.model.specs.examples.Marked.{resting, stroke, onOwnBells, m1, phraseP}
 use Rattle.model.specs.examples.Marked.{waiting as waits}
 
 -- ---- the moments of a range: its ends are among them
@@ -144,7 +144,7 @@ not-earlier w = omega (arith, w .earlier 0 (omega arith) 0 refl)
 
 -- ---- the status of a job that starts at 2 and finishes at 5, at 0 to 6
 
-pub statuses : map (statusAt 2 5) (0 ∷ 1 ∷ 2 ∷ 3 ∷ 4 ∷ 5 ∷ 6 ∷ []) ≡ waiting ∷ waiting ∷ running 5 ∷ running 5 ∷ running 5 ∷ done ∷ done ∷ []
+pub statuses : map (statusAt 2 5) (0 ∷ 1 ∷ 2 ∷ 3 ∷ 4 ∷ 5 ∷ 6 ∷ []) ≡ waiting ∷ waiting ∷ running 5 ∷ running 5 ∷ running 5 ∷ done 5 ∷ done 5 ∷ []
 unfolding statusAt
 statuses = refl
 
@@ -155,7 +155,7 @@ within = range 2 7 ∷ range 4 6 ∷ []
 
 -- a job that starts at 2 and finishes at 6 waits at 1, runs from 2 to 5, and is done at 6
 pub kept-once : (s : Scenario) (k : Kept (phraseP 7) 1 within s) → k .start 1 ≡ 2 → k .finish 1 ≡ 6
-    → map (λ t. status (run (phraseP 7) 1 s t .statuses) 1) (1 ∷ 2 ∷ 5 ∷ 6 ∷ []) ≡ waiting ∷ running 6 ∷ running 6 ∷ done ∷ []
+    → map (λ t. status (run (phraseP 7) 1 s t .statuses) 1) (1 ∷ 2 ∷ 5 ∷ 6 ∷ []) ≡ waiting ∷ running 6 ∷ running 6 ∷ done 6 ∷ []
 unfolding statusAt
 kept-once s k b e =
     rw (k .once 1 (omega arith) 1, k .once 1 (omega arith) 2, k .once 1 (omega arith) 5, k .once 1 (omega arith) 6, b, e) refl
@@ -184,7 +184,7 @@ largest-latest = refl
 
 -- from 7 on, the largest latest finish time, every job is done
 pub kept-quiet : (s : Scenario) (k : Kept (phraseP 7) 1 within s) (t : ℕ) → 7 ≤ t
-    → (status (run (phraseP 7) 1 s t .statuses) 0 ≡ done) × (status (run (phraseP 7) 1 s t .statuses) 1 ≡ done)
+    → (status (run (phraseP 7) 1 s t .statuses) 0 ≡ done (k .finish 0)) × (status (run (phraseP 7) 1 s t .statuses) 1 ≡ done (k .finish 1))
 unfolding largest
 kept-quiet s k t l = (k .quiet t (omega arith) 0 (omega arith), k .quiet t (omega arith) 1 (omega arith))
 
@@ -202,6 +202,22 @@ pub kept-apart-turned : (s : Scenario) (bounds : List Range) (k : Kept two 2 bou
 kept-apart-turned s bounds k r =
     k .apart 1 0 (omega arith) (omega arith) (λ e. omega arith) refl (5, omega arith, omega arith, omega arith, omega arith)
 
+-- the second of three jobs of one bell starts at least its rest of 3 after the first has finished, and the third its rest of 2 after either
+abbrev three : List Job
+three = stroke 0 0 3 3 1 7 ∷ resting 3 9 [] 0 0 2 2 1 7 ∷ resting 2 9 [] 0 0 2 2 1 7 ∷ []
+
+pub kept-rested : (s : Scenario) (bounds : List Range) (k : Kept three 2 bounds s) → k .finish 0 ≡ 4 → k .finish 1 ≡ 9
+    → (7 ≤ k .start 1) × (6 ≤ k .start 2) × (11 ≤ k .start 2)
+kept-rested s bounds k e e′ =
+    omega (
+      arith,
+      e,
+      e′,
+      k .rested 0 1 (omega arith) (omega arith) refl,
+      k .rested 0 2 (omega arith) (omega arith) refl,
+      k .rested 1 2 (omega arith) (omega arith) refl,
+    )
+
 -- ---- runs that are not kept: P on one core, its job 0 released at 1, which runs from 4 until 6
 
 abbrev pub later : Scenario
@@ -210,7 +226,7 @@ later = scenario (1 ∷ 0 ∷ []) (2 ∷ 4 ∷ [])
 pub later-admissible : Admissible (phraseP 7) later
 later-admissible = record { releases = of-two _ (omega arith) (omega arith); executions = of-two _ (omega arith) (omega arith) }
 
-runs-until : (b c : Bool) (f g : ℕ) → running g ≡ cond b waiting (cond c (running f) done) → f ≡ g
+runs-until : (b c : Bool) (f g : ℕ) → running g ≡ cond b waiting (cond c (running f) (done f)) → f ≡ g
 runs-until true c f g e = absurd (let z : _≡_ {A = ℕ} 0 1 = cc in omega arith)
 runs-until false true f g e = cc
 runs-until false false f g e = absurd (let z : _≡_ {A = ℕ} 0 1 = cc in omega arith)

@@ -10,7 +10,7 @@ use Rattle.model.specs.Jobs.{Job}
 use Rattle.model.specs.States.{State, empty, range, initial}
 use Rattle.model.specs.Edges.{earliestStart, workConservingBound, higherPriorityBound, eligible}
 use Rattle.model.specs.Eligibility.{latestStartZ, inOrder}
-use Rattle.model.specs.examples.Marked.{stroke, waiting, onOwnBells}
+use Rattle.model.specs.examples.Marked.{resting, stroke, waiting, onOwnBells}
 
 -- EST, twc, thigh, LST; whether EST is at most LST, and whether the job may go next
 pub record Steps : Type 0 where
@@ -110,8 +110,39 @@ heldBack =
       expected = record { earliest = 3; bound = 3; higher = finite 3; latest = pos 2; compared = false; goesNext = false };
     }
 
+-- Jobs 1 and 2 wait for job 0, which ends 1..2: job 1 as the next of its bell, which rests for 3, and job 2, which goes after it, because it lists it. Job 1
+-- is certainly ready at 2 + 3, so twc and thigh are 5. Job 2 is not held by the rest: EST is 1.
+abbrev besideARest : Example
+besideARest =
+    record {
+      jobs = stroke 0 0 1 2 0 7 ∷ resting 3 9 [] 0 0 1 1 0 7 ∷ waiting (0 ∷ []) 0 9 1 1 1 8 ∷ [];
+      state = record { finish = range 1 2 ∷ empty ∷ empty ∷ []; possiblyFree = 1 ∷ []; certainlyFree = 2 ∷ [] };
+      asked = 2;
+      expected = record { earliest = 1; bound = 5; higher = finite 5; latest = pos 4; compared = true; goesNext = true };
+    }
+
+-- The same, but job 1 is asked: EST is 1 + 3, and no job goes before it.
+abbrev afterARest : Example
+afterARest =
+    record {
+      jobs = besideARest .jobs;
+      state = besideARest .state;
+      asked = 1;
+      expected = record { earliest = 4; bound = 5; higher = infinite; latest = pos 5; compared = true; goesNext = true };
+    }
+
 abbrev pub table : List Example
-table = example4 ∷ belowZero ∷ belowZeroLater ∷ onlyThen ∷ pastTheBound ∷ pastTheBoundAlone ∷ heldBack ∷ []
+table =
+    example4
+    ∷ belowZero
+    ∷ belowZeroLater
+    ∷ onlyThen
+    ∷ pastTheBound
+    ∷ pastTheBoundAlone
+    ∷ heldBack
+    ∷ besideARest
+    ∷ afterARest
+    ∷ []
 
 pub stepped : map steps table ≡ map (λ (x : Example). x .expected) table
 unfolding earliestStart workConservingBound higherPriorityBound eligible latestStartZ inOrder

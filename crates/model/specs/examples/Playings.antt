@@ -10,8 +10,8 @@ use Rattle.model.specs.Jobs.{Job}
 use Rattle.model.specs.Dispatch.{Scenario, Moment, waiting, running, done, status, run}
 use Rattle.model.specs.Guarantee.{statusAt}
 use Rattle.model.specs.Playing.{horizon, firstTime, runsUntil, startTime, finishTime, Played}
-use Rattle.model.specs.examples.Marked.{stroke, onOwnBells, phraseP}
-use Rattle.model.specs.examples.Runs.{Case, scenarioOf, pAt, orderAt, bellAt, togetherAt, lastCoreAt, nearestAt, bothAt}
+use Rattle.model.specs.examples.Marked.{resting, stroke, onOwnBells, phraseP}
+use Rattle.model.specs.examples.Runs.{Case, scenarioOf, pAt, orderAt, bellAt, togetherAt, lastCoreAt, nearestAt, bothAt, restAt}
 
 -- ---- whole runs
 
@@ -50,7 +50,7 @@ abbrev loneAt : ℕ → Moment → Case
 loneAt t x =
     record { cores = 2; jobs = onOwnBells (stroke 0 9 1 9 1 ∷ []); releases = 5 ∷ 9 ∷ []; executions = 3 ∷ 9 ∷ []; moment = t; expected = x }
 
--- by hand, as in Runs; the horizon is the latest release and all executions
+-- by hand, as in Runs; the horizon is the latest release, all executions and all rests
 abbrev pub plays : List Play
 plays =
     -- job 1 starts at 0; job 0, released at 1, waits for the core until 4
@@ -67,6 +67,8 @@ plays =
     ∷ play nearestAt (0 ∷ 4 ∷ 6 ∷ []) (1 ∷ 6 ∷ 7 ∷ []) 8
     -- job 2 waits for both
     ∷ play bothAt (0 ∷ 0 ∷ 3 ∷ []) (1 ∷ 3 ∷ 4 ∷ []) 5
+    -- job 1 waits until its bell has rested, and job 2 runs meanwhile; all executions are 5, all rests 6
+    ∷ play restAt (0 ∷ 5 ∷ 2 ∷ []) (2 ∷ 6 ∷ 4 ∷ []) 11
     ∷ play noneAt [] [] 0
     ∷ play loneAt (5 ∷ []) (8 ∷ []) 8
     ∷ []
@@ -88,7 +90,7 @@ pub first-times :
 unfolding firstTime member
 first-times = refl
 
-pub until : map runsUntil (waiting ∷ running 4 ∷ done ∷ []) ≡ 0 ∷ 4 ∷ 0 ∷ []
+pub until : map runsUntil (waiting ∷ running 4 ∷ done 4 ∷ []) ≡ 0 ∷ 4 ∷ 0 ∷ []
 until = refl
 
 -- the largest of the first n of these numbers
@@ -112,7 +114,7 @@ finish = finishTime (phraseP 7) 1
 
 -- a job that starts at 2 and finishes at 6 waits at 1, runs from 2 to 5, and is done at 6
 pub played-once : (s : Scenario) → Played (phraseP 7) 1 s → start s 1 ≡ 2 → finish s 1 ≡ 6
-    → map (λ t. status (run (phraseP 7) 1 s t .statuses) 1) (1 ∷ 2 ∷ 5 ∷ 6 ∷ []) ≡ waiting ∷ running 6 ∷ running 6 ∷ done ∷ []
+    → map (λ t. status (run (phraseP 7) 1 s t .statuses) 1) (1 ∷ 2 ∷ 5 ∷ 6 ∷ []) ≡ waiting ∷ running 6 ∷ running 6 ∷ done 6 ∷ []
 unfolding statusAt
 played-once s p b e =
     rw (p .once 1 (omega arith) 1, p .once 1 (omega arith) 2, p .once 1 (omega arith) 5, p .once 1 (omega arith) 6, b, e) refl
@@ -134,3 +136,10 @@ two = stroke 0 0 3 3 1 7 ∷ stroke 0 0 2 2 1 7 ∷ []
 pub played-apart : (s : Scenario) → Played two 2 s
     → (startTime two 2 s 0 ≤ 5) × (5 < finishTime two 2 s 0) × (startTime two 2 s 1 ≤ 5) × (5 < finishTime two 2 s 1) → ⊥
 played-apart s p o = p .apart 0 1 (omega arith) (omega arith) (λ e. omega arith) refl (5, omega arith, omega arith, omega arith, omega arith)
+
+-- the second starts at least its rest of 3 after the first has finished
+abbrev restingTwo : List Job
+restingTwo = stroke 0 0 3 3 1 7 ∷ resting 3 9 [] 0 0 2 2 1 7 ∷ []
+
+pub played-rested : (s : Scenario) → Played restingTwo 2 s → finishTime restingTwo 2 s 0 ≡ 4 → 7 ≤ startTime restingTwo 2 s 1
+played-rested s p e = omega (arith, e, p .rested 0 1 (omega arith) (omega arith) refl)

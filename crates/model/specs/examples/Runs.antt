@@ -5,7 +5,7 @@ use mathlib.Core.List.{List, [], _∷_, map}
 use lib.ListN.{getD}
 use Rattle.model.specs.Jobs.{Job}
 use Rattle.model.specs.Dispatch.{Scenario, Moment, waiting, running, done, run}
-use Rattle.model.specs.examples.Marked.{dueWaiting, stroke, onOwnBells, phraseP}
+use Rattle.model.specs.examples.Marked.{resting, dueWaiting, stroke, onOwnBells, phraseP}
 
 -- a phrase on so many cores, the release and execution times of its jobs, and the state of the run that is due at a moment
 pub record Case : Type 0 where
@@ -100,32 +100,50 @@ bothAt t x =
       expected = x;
     }
 
+-- Jobs 0 and 1 strike one bell, with a rest of 3. Job 0 starts at 0, for none is before it, and ends at 2. Job 1 is ready at 5: until then job 2, of lower
+-- priority, finds the core, and from 4 on the core is free although job 1 waits.
+abbrev pub restAt : ℕ → Moment → Case
+restAt t x =
+    record {
+      cores = 1;
+      jobs = resting 3 9 [] 0 0 2 2 1 7 ∷ resting 3 9 [] 0 0 1 1 1 7 ∷ stroke 0 0 2 2 2 8 ∷ [];
+      releases = [];
+      executions = 2 ∷ 1 ∷ 2 ∷ [];
+      moment = t;
+      expected = x;
+    }
+
 abbrev pub table : List Case
 table =
     pAt 0 (record { statuses = waiting ∷ running 4 ∷ []; free = 0 })
     ∷ pAt 3 (record { statuses = waiting ∷ running 4 ∷ []; free = 0 })
-    ∷ pAt 4 (record { statuses = running 6 ∷ done ∷ []; free = 0 })
-    ∷ pAt 6 (record { statuses = done ∷ done ∷ []; free = 1 })
+    ∷ pAt 4 (record { statuses = running 6 ∷ done 4 ∷ []; free = 0 })
+    ∷ pAt 6 (record { statuses = done 6 ∷ done 4 ∷ []; free = 1 })
     ∷ orderAt 0 (record { statuses = waiting ∷ waiting ∷ running 1 ∷ []; free = 0 })
-    ∷ orderAt 1 (record { statuses = running 2 ∷ waiting ∷ done ∷ []; free = 0 })
-    ∷ orderAt 2 (record { statuses = done ∷ running 3 ∷ done ∷ []; free = 0 })
+    ∷ orderAt 1 (record { statuses = running 2 ∷ waiting ∷ done 1 ∷ []; free = 0 })
+    ∷ orderAt 2 (record { statuses = done 2 ∷ running 3 ∷ done 1 ∷ []; free = 0 })
     ∷ bellAt 0 (record { statuses = running 3 ∷ waiting ∷ waiting ∷ []; free = 1 })
-    ∷ bellAt 3 (record { statuses = done ∷ running 5 ∷ waiting ∷ []; free = 1 })
-    ∷ bellAt 5 (record { statuses = done ∷ done ∷ running 6 ∷ []; free = 1 })
+    ∷ bellAt 3 (record { statuses = done 3 ∷ running 5 ∷ waiting ∷ []; free = 1 })
+    ∷ bellAt 5 (record { statuses = done 3 ∷ done 5 ∷ running 6 ∷ []; free = 1 })
     ∷ togetherAt 0 (record { statuses = waiting ∷ running 2 ∷ running 2 ∷ []; free = 0 })
     ∷ togetherAt 1 (record { statuses = waiting ∷ running 2 ∷ running 2 ∷ []; free = 0 })
-    ∷ togetherAt 2 (record { statuses = running 6 ∷ done ∷ done ∷ []; free = 1 })
-    ∷ togetherAt 6 (record { statuses = done ∷ done ∷ done ∷ []; free = 2 })
+    ∷ togetherAt 2 (record { statuses = running 6 ∷ done 2 ∷ done 2 ∷ []; free = 1 })
+    ∷ togetherAt 6 (record { statuses = done 6 ∷ done 2 ∷ done 2 ∷ []; free = 2 })
     ∷ lastCoreAt 0 (record { statuses = waiting ∷ waiting ∷ waiting ∷ waiting ∷ []; free = 3 })
     ∷ lastCoreAt 1 (record { statuses = waiting ∷ running 4 ∷ running 5 ∷ waiting ∷ []; free = 1 })
     ∷ lastCoreAt 2 (record { statuses = running 5 ∷ running 4 ∷ running 5 ∷ waiting ∷ []; free = 0 })
-    ∷ lastCoreAt 4 (record { statuses = running 5 ∷ done ∷ running 5 ∷ running 5 ∷ []; free = 0 })
-    ∷ lastCoreAt 5 (record { statuses = done ∷ done ∷ done ∷ done ∷ []; free = 3 })
-    ∷ nearestAt 3 (record { statuses = done ∷ waiting ∷ waiting ∷ []; free = 2 })
-    ∷ nearestAt 4 (record { statuses = done ∷ running 6 ∷ waiting ∷ []; free = 1 })
-    ∷ nearestAt 6 (record { statuses = done ∷ done ∷ running 7 ∷ []; free = 1 })
-    ∷ bothAt 1 (record { statuses = done ∷ running 3 ∷ waiting ∷ []; free = 2 })
-    ∷ bothAt 3 (record { statuses = done ∷ done ∷ running 4 ∷ []; free = 2 })
+    ∷ lastCoreAt 4 (record { statuses = running 5 ∷ done 4 ∷ running 5 ∷ running 5 ∷ []; free = 0 })
+    ∷ lastCoreAt 5 (record { statuses = done 5 ∷ done 4 ∷ done 5 ∷ done 5 ∷ []; free = 3 })
+    ∷ nearestAt 3 (record { statuses = done 1 ∷ waiting ∷ waiting ∷ []; free = 2 })
+    ∷ nearestAt 4 (record { statuses = done 1 ∷ running 6 ∷ waiting ∷ []; free = 1 })
+    ∷ nearestAt 6 (record { statuses = done 1 ∷ done 6 ∷ running 7 ∷ []; free = 1 })
+    ∷ bothAt 1 (record { statuses = done 1 ∷ running 3 ∷ waiting ∷ []; free = 2 })
+    ∷ bothAt 3 (record { statuses = done 1 ∷ done 3 ∷ running 4 ∷ []; free = 2 })
+    ∷ restAt 0 (record { statuses = running 2 ∷ waiting ∷ waiting ∷ []; free = 0 })
+    ∷ restAt 2 (record { statuses = done 2 ∷ waiting ∷ running 4 ∷ []; free = 0 })
+    ∷ restAt 4 (record { statuses = done 2 ∷ waiting ∷ done 4 ∷ []; free = 1 })
+    ∷ restAt 5 (record { statuses = done 2 ∷ running 6 ∷ done 4 ∷ []; free = 0 })
+    ∷ restAt 6 (record { statuses = done 2 ∷ done 6 ∷ done 4 ∷ []; free = 1 })
     ∷ []
 
 pub ran : map reached table ≡ map (λ (c : Case). c .expected) table

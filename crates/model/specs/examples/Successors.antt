@@ -2,9 +2,9 @@
 use mathlib.Core.Path.{_≡_, refl}
 use mathlib.Core.List.{List, [], _∷_}
 use Rattle.model.specs.Jobs.{Job}
-use Rattle.model.specs.States.{State, range, initial}
+use Rattle.model.specs.States.{empty, range, initial}
 use Rattle.model.specs.Edges.{successor}
-use Rattle.model.specs.examples.Marked.{stroke, onOwnBells}
+use Rattle.model.specs.examples.Marked.{resting, stroke, onOwnBells}
 
 -- Example 1 of Nasri, Nelissen and Brandenburg: three jobs on three cores, whose finish times lie in 10..45, 30..40 and 15..25.
 abbrev pub threeJobs : List Job
@@ -21,3 +21,19 @@ pub example1 :
     }
 unfolding successor
 example1 = refl
+
+-- Two jobs of one bell, with a rest of 3, on two cores. Job 0 ends 2..4: {0} [0,0] [2,4]. Job 1 has EST 2 + 3 and twc 4 + 3, and ends 6..8. While the bell
+-- rests its core is free: the rest is in no end and in no availability.
+abbrev pub restingPair : List Job
+restingPair = resting 3 9 [] 0 0 2 4 1 7 ∷ resting 3 9 [] 0 0 1 1 1 7 ∷ []
+
+pub first-of-pair :
+    successor restingPair (initial 2 2) 0 ≡ record { finish = range 2 4 ∷ empty ∷ []; possiblyFree = 0 ∷ 2 ∷ []; certainlyFree = 0 ∷ 4 ∷ [] }
+unfolding successor
+first-of-pair = refl
+
+pub second-of-pair :
+    successor restingPair (successor restingPair (initial 2 2) 0) 1
+    ≡ record { finish = range 2 4 ∷ range 6 8 ∷ []; possiblyFree = 5 ∷ 6 ∷ []; certainlyFree = 5 ∷ 8 ∷ [] }
+unfolding successor
+second-of-pair = refl

@@ -13,6 +13,10 @@ pub record TimedUpTo (d : ℕ) (js : List Job) : Type 0 where
   pub executions : (i : ℕ) → i < length js → job js i .leastExecution ≤ job js i .mostExecution
   pub deadlines : (i : ℕ) → i < length js → job js i .deadline ≤ d
 
+-- no bell rests for longer than r
+abbrev pub RestsUpTo : ℕ → List Job → Type 0
+RestsUpTo r js = (i : ℕ) → i < length js → job js i .rest ≤ r
+
 -- every time is at most d
 abbrev pub UpTo : ℕ → List ℕ → Type 0
 UpTo d l = (k : ℕ) → getD l k 0 ≤ d

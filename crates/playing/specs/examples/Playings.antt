@@ -6,20 +6,20 @@ use mathlib.Core.List.{List, [], _∷_, _++_, map}
 use native.Mathlib.Omega.{arith}
 use lib.ListN.{length, replicate, set}
 use Rattle.model.specs.Jobs.{Job}
-use Rattle.model.specs.Dispatch.{Scenario, isWaiting, isDone, run}
+use Rattle.model.specs.Dispatch.{Scenario, isWaiting, hasRested, run}
 use Rattle.model.specs.States.{range}
 use Rattle.model.specs.Exploration.{accepted, late}
 use Rattle.model.specs.Exploration.{refused as rejected}
 use Rattle.model.specs.Guarantee.{statusAt}
 use Rattle.model.specs.Playing.{startTime, finishTime}
-use Rattle.model.specs.examples.Marked.{stroke, onOwnBells, phraseP}
+use Rattle.model.specs.examples.Marked.{resting, stroke, onOwnBells, phraseP}
 use Rattle.words.specs.Tabulate.{tabulate}
 use Rattle.format.specs.Outcome.{Outcome, ok, refused, _>>=_}
 use Rattle.format.specs.Reading.{reading}
 use Rattle.format.specs.examples.Files.{fileP}
 use Rattle.checking.specs.Checking.{perJob}
 use Rattle.checking.specs.examples.Checks.{versionNine, onTwo, latePhrase, noStroke}
-use Rattle.playing.specs.Playing.{scenarioIn, scenarioFor, Times, playedOf, startsOf, finishesOf, admissionOf}
+use Rattle.playing.specs.Playing.{scenarioIn, scenarioFor, Times, playedFor, playedOf, startsOf, finishesOf, admissionOf}
 use Rattle.playing.specs.Promise.{RanAs, Inside}
 use Rattle.playing.specs.declared.answers.Admission.the-variants.{Admitted, Refused}
 
@@ -175,6 +175,42 @@ pub as-played : map (λ (c : Play). playedOf (reading (c .file)) (c .bytes)) pla
 unfolding reading scenarioFor startTime finishTime perJob
 as-played = refl
 
+-- ---- of bells that rest
+
+-- two strokes of any call and hold up to 9; the second with a rest, a list of waits and a bell
+abbrev restTwo : ℕ → List ℕ → ℕ → List Job
+restTwo rest listed bell = resting 5 3600000 [] 0 9 1 9 1 7 ∷ resting rest 3600000 listed 0 9 1 9 2 bell ∷ []
+
+-- the jobs, a playing on two cores, and the times that are due
+pub record Rested : Type 0 where
+  pub jobs : List Job
+  pub bytes : List ℕ
+  pub due : Outcome Times
+
+abbrev rested : List Job → List ℕ → Outcome Times → Rested
+rested js p x = record { jobs = js; bytes = p; due = x }
+
+abbrev rests : List Rested
+rests =
+    -- stroke 0 ends at 2, and its bell has rested at 5: stroke 1 waits for that, whether it lists stroke 0 too or not
+    rested (restTwo 3 [] 7) (two 0 2 1 4) (times 0 2 5 9)
+    ∷ rested (restTwo 3 (0 ∷ []) 7) (two 0 2 1 4) (times 0 2 5 9)
+    -- called a millisecond before the rest is over, then, and after it
+    ∷ rested (restTwo 3 [] 7) (two 0 2 4 4) (times 0 2 5 9)
+    ∷ rested (restTwo 3 [] 7) (two 0 2 5 4) (times 0 2 5 9)
+    ∷ rested (restTwo 3 [] 7) (two 0 2 6 4) (times 0 2 6 10)
+    -- without a rest, and of another bell: with a wait and without
+    ∷ rested (restTwo 0 [] 7) (two 0 2 1 4) (times 0 2 2 6)
+    ∷ rested (restTwo 3 (0 ∷ []) 8) (two 0 2 1 4) (times 0 2 2 6)
+    ∷ rested (restTwo 3 [] 8) (two 0 2 1 4) (times 0 2 1 5)
+    ∷ []
+
+pub as-rested : map (λ (c : Rested). playedFor (c .jobs) 2 (c .bytes)) rests ≡ map (λ (c : Rested). c .due) rests
+unfolding scenarioFor startTime finishTime perJob
+as-rested = refl
+
+-- ---- as they are told
+
 -- the starts and the ends of each are told as they are, and on a refusal as zeros
 pub told :
     startsOf (times 4 6 0 4) ∷ finishesOf (times 4 6 0 4) ∷ startsOf (refused 18 3) ∷ finishesOf (refused 18 3) ∷ []
@@ -193,7 +229,7 @@ not-from-three r = false≢true (sym (ap isWaiting (r 0 (omega arith) 3)))
 
 pub not-until-five : RanAs (reading fileP) playingP (both 4 0) (both 5 4) → ⊥
 unfolding reading scenarioIn run statusAt
-not-until-five r = false≢true (ap isDone (r 0 (omega arith) 5))
+not-until-five r = false≢true (ap (hasRested 5 0) (r 0 (omega arith) 5))
 
 -- stroke 1 does not wait at 0
 pub not-from-one : RanAs (reading fileP) playingP (both 4 1) (both 6 4) → ⊥

@@ -33,7 +33,7 @@ reached c = c .before .before
 -- the test of its version
 version-tested : (c : tie.After-is-within) → c .is-within .result ≡ isVersion (number 1 0 (file (c .before .before)))
 version-tested c =
-    c .is-within .ensures ∙ ap (within 1 2) (c .before .byte .ensures .0) ∙ sym (versions-are (number 1 0 (file (c .before .before))))
+    c .is-within .ensures ∙ ap (within 1 3) (c .before .byte .ensures .0) ∙ sym (versions-are (number 1 0 (file (c .before .before))))
 
 versioned : (c : tie.Else2) → isVersion (number 1 0 (file (begun c))) ≡ true
 versioned c = sym (version-tested (c .before)) ∙ not-false (c .before .is-within .result) (c .if2 .left)

@@ -2,9 +2,10 @@
 use mathlib.Core.Path.{_≡_, refl}
 use mathlib.Core.List.{[], _∷_, map}
 use Rattle.format.specs.Bytes.{number}
-use Rattle.format.specs.Layout.{first, second}
+use Rattle.format.specs.Layout.{first, second, third}
 use Rattle.format.specs.examples.Files.{fileP, fileQ}
 use Rattle.format.specs.examples.Shifts.{fileS}
+use Rattle.format.specs.examples.Rests.{fileR}
 use Rattle.reader.specs.internal.Filling.{countsIn}
 
 -- two bells and two notes, and two bells and four notes; the number of notes stands after the bells, at 21
@@ -18,3 +19,8 @@ counts = refl
 pub shifted : countsIn second fileS ≡ record { version = 2; cores = 1; shift = 252; bells = 2; notes = 2 }
 unfolding number
 shifted = refl
+
+-- with rests too: two bells of nine bytes, and the number of notes after them, at 26
+pub rested : countsIn third fileR ≡ record { version = 3; cores = 1; shift = 252; bells = 2; notes = 2 }
+unfolding number
+rested = refl

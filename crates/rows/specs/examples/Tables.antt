@@ -7,8 +7,9 @@ use Rattle.format.specs.Bytes.{records}
 use Rattle.format.specs.Outcome.{ok, refused}
 use Rattle.format.specs.Phrase.{Phrase, sounding, findFrom}
 use Rattle.format.specs.Jobs.{noNote}
-use Rattle.format.specs.examples.Files.{bell, note, phraseP}
+use Rattle.format.specs.examples.Files.{bell, resting, note, bell0, bell1, phraseP}
 use Rattle.format.specs.examples.Shifts.{phraseS}
+use Rattle.format.specs.examples.Rests.{phraseR as phraseT}
 use Rattle.rows.specs.Rows.{rowsIn}
 use Rattle.rows.specs.BellRow.{bellRow}
 use Rattle.rows.specs.NoteRow.{noteRowOn}
@@ -20,7 +21,7 @@ use Rattle.rows.specs.PhraseTable.{phraseTable, phraseOf}
 abbrev tableP : List ℕ
 tableP =
     (1 ∷ 1 ∷ 2 ∷ 2 ∷ 0 ∷ [])
-    -- N, T, ca, cb, p, a spare word, and the key that the bell sounds for
+    -- N, T, ca, cb, p, the rest, and the key that the bell sounds for
     ++ (60 ∷ 0 ∷ 2 ∷ 2 ∷ 1 ∷ 0 ∷ 60 ∷ [])
     ++ (62 ∷ 12 ∷ 4 ∷ 4 ∷ 2 ∷ 0 ∷ 74 ∷ [])
     ++ replicate 658 0
@@ -76,8 +77,8 @@ pub fewer-held : phraseOf (set (set tableR 2 1) 3 2)
 unfolding rowsIn
 fewer-held = refl
 
--- a spare word (of bell 0) and derived ones (the key of bell 0, the bell of note 0) say nothing of the phrase
-pub others-ignored : phraseOf (set (set (set tableP 10 9) 11 99) 686 9) ≡ phraseP
+-- derived words (the key of bell 0, the bell of note 0) say nothing of the phrase
+pub others-ignored : phraseOf (set (set tableP 11 99) 686 9) ≡ phraseP
 unfolding rowsIn
 others-ignored = refl
 
@@ -113,10 +114,39 @@ pub s-held : phraseOf tableS ≡ phraseS
 unfolding rowsIn
 s-held = refl
 
+-- ---- rests: a word after the rank, whatever the version
+
+pub bell-row : bellRow (resting 300 (bell 62 244 3 9 7)) ≡ 62 ∷ 244 ∷ 3 ∷ 9 ∷ 7 ∷ 300 ∷ 50 ∷ []
+unfolding bellRow sounding
+bell-row = refl
+
+abbrev tableT : List ℕ
+tableT =
+    (3 ∷ 1 ∷ 2 ∷ 2 ∷ 252 ∷ [])
+    ++ (60 ∷ 0 ∷ 2 ∷ 2 ∷ 1 ∷ 300 ∷ 60 ∷ [])
+    ++ (62 ∷ 12 ∷ 4 ∷ 4 ∷ 2 ∷ 5000 ∷ 74 ∷ [])
+    ++ replicate 658 0
+    ++ (64 ∷ 0 ∷ 5 ∷ 7 ∷ 0 ∷ 0 ∷ 0 ∷ 0 ∷ 0 ∷ 0 ∷ [])
+    ++ (78 ∷ 0 ∷ 0 ∷ 6 ∷ 0 ∷ 0 ∷ 0 ∷ 0 ∷ 0 ∷ 1 ∷ [])
+    ++ replicate 620 0
+
+pub t-table : phraseTable (ok phraseT) ≡ tableT
+unfolding records bellRow noteRowOn sounding findFrom
+t-table = refl
+
+pub t-held : phraseOf tableT ≡ phraseT
+unfolding rowsIn
+t-held = refl
+
+-- a rest of 9 for bell 0 of P, which is of version 1
+pub rest-held : phraseOf (set tableP 10 9) .bells ≡ resting 9 bell0 ∷ bell1 ∷ []
+unfolding rowsIn
+rest-held = refl
+
 -- ---- a refusal: zeros only, and as many
 
 pub refused-table : phraseTable (refused 12 36) ≡ replicate 1317 0
 refused-table = refl
 
-pub table-lengths : length tableP ∷ length tableR ∷ [] ≡ 1317 ∷ 1317 ∷ []
+pub table-lengths : length tableP ∷ length tableR ∷ length tableT ∷ [] ≡ 1317 ∷ 1317 ∷ 1317 ∷ []
 table-lengths = refl

@@ -5,7 +5,7 @@ use native.Mathlib.Omega.{arith}
 use lib.ListN.{length, length-set}
 use denote.Ref.{now}
 use borrow.Author.Needs.{needs}
-use Rattle.dispatch.proofs.Turning.{AreWords, run-over, finish-small, turned}
+use Rattle.dispatch.proofs.Turning.{AreWords, run-over, finish-small, finishes-small, turned}
 use Rattle.dispatch.proofs.turns.start_next.Statement.{statement}
 use Rattle.dispatch.proofs.turns.start_next.Tie as tie
 
@@ -109,16 +109,26 @@ slice-write-wakes c = search needs
 wake-after-requires : tie.Need-wake-after-requires
 wake-after-requires c κs =
     let e = c .before .before .before .before .before in
-    let known = start (e .before) .pre in
-    let kept = known .1 .kept in (
+    let d = e .before in
+    let a = start d .args in
+    let known = start d .pre in
+    let kept = known .1 .kept in
+    let free = d .before .before .before .first-free in
+    let begun = c .before .before .before .larger in
+    let lasting = c .before .before .execution in (
       inside e,
       record {
         rows-of = known .0 .setting .rows-of;
         few-jobs = known .0 .setting .jobs;
+        rests = known .0 .setting .rests;
         has-jobs = known .0 .has-jobs;
-        finishes-of = omega (arith, kept .finishes-long, length-set (now (start (e .before) .args .finishes)) (e .before .next-job .result) (c .before .before .before .larger .result + c .before .before .execution .result));
+        finishes-of = omega (arith, kept .finishes-long, length-set (now (a .finishes)) (d .next-job .result) (begun .result + lasting .result));
+        finishes-small =
+            finishes-small (now (a .rows)) (a .k) (now (a .playing)) (now (a .starts)) (now (a .finishes)) (now (a .wakes)) (now (a .cores)) (known .0) (words d)
+            (known .1 .time) (known .1 .standing) (free .result) (d .next-job .result) (free .ensures .0) (free .ensures .1) (d .next-job .ensures) (inside e)
+            (omega (arith, inside e, kept .finishes-long)) (begun .result) (lasting .result) (begun .ensures) (lasting .ensures);
       },
-      omega (arith, kept .wakes-long, length-set (now (start (e .before) .args .wakes)) (e .before .next-job .result) 4294967295),
+      omega (arith, kept .wakes-long, length-set (now (a .wakes)) (d .next-job .result) 4294967295),
     )
 
 same-length-3 : tie.Need-same-length-3

@@ -16,7 +16,7 @@ use Rattle.format.proofs.Layouts.{head-total}
 use Rattle.fields.specs.internal.Layouts.{layoutOf}
 use Rattle.fields.proofs.Shifts.{one}
 use Rattle.encoding.proofs.Fields.{puts, puts-whole}
-use Rattle.encoding.proofs.HeadShift.{none-put, some-put}
+use Rattle.encoding.proofs.Versioned.{none-put, some-put}
 use borrow.Author.Needs.{needs}
 use Rattle.encoding.proofs.head.put_head.Statement.{statement}
 use Rattle.encoding.proofs.head.put_head.Tie as tie
@@ -46,8 +46,8 @@ shifted c =
     let a = start d .args in
     let t = cores d .put-82 .last .0 in
     ⊎-elim
-    (λ w. w .5 ∙ w .2 .ensures ∙ some-put (a .l) t shiftAt (a .shift) (start d .pre .0) (w .0 .taken))
-    (λ w. w .1 ∙ none-put (a .l) t shiftAt (a .shift) (w .0 .left))
+    (λ w. w .5 ∙ w .2 .ensures ∙ some-put t shiftAt (a .shift) (a .l .shift) 1 (one (a .l) (start d .pre .0) (w .0 .taken)))
+    (λ w. w .1 ∙ none-put t shiftAt (a .shift) (a .l .shift) (w .0 .left))
     (c .if1 .came)
 
 shifted-long : (c : tie.Joined1) → length (c .if1 .part) ≡ length (now (start (c .before) .args .part))

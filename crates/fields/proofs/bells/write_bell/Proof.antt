@@ -5,9 +5,9 @@ use native.Mathlib.Omega.{arith}
 use lib.ListN.{length-set}
 use denote.Ref.{now}
 use Rattle.format.specs.Bytes.{fieldsIn}
-use Rattle.format.specs.Layout.{first}
 use Rattle.format.specs.Reading.{bellIn}
 use Rattle.rows.specs.BellRow.{bellRow}
+use Rattle.fields.specs.internal.Layouts.{layoutOf}
 use Rattle.words.proofs.Placing.{sets-placed, placed-whole}
 use borrow.Author.Needs.{needs}
 use Rattle.fields.proofs.bells.write_bell.Statement.{statement}
@@ -37,11 +37,14 @@ be-16-requires-2 c κs = search needs
 slice-write-row-4 : tie.Need-slice-write-row-4
 slice-write-row-4 c = search needs
 
-byte-requires-3 : tie.Need-byte-requires-3
-byte-requires-3 c κs = search needs
+priority-in-requires : tie.Need-priority-in-requires
+priority-in-requires c κs = search needs
 
 slice-write-row-5 : tie.Need-slice-write-row-5
 slice-write-row-5 c = simp length-set (omega arith)
+
+rest-in-requires : tie.Need-rest-in-requires
+rest-in-requires c κs = search needs
 
 slice-write-row-6 : tie.Need-slice-write-row-6
 slice-write-row-6 c = simp length-set (omega arith)
@@ -55,15 +58,17 @@ same-length c = simp length-set
 returns : tie.Need-returns
 unfolding bellRow bellIn fieldsIn
 returns c =
-    let a = c .before .before .before .before .before .before .before in
-    let wrote = c .before .before .before .before .byte in
-    let transposed = c .before .before .before .byte2 in
-    let least = c .before .before .be-16 in
-    let most = c .before .be-162 in
-    let ws = wrote .result ∷ transposed .result ∷ least .result ∷ most .result ∷ c .byte3 .result ∷ 0 ∷ a .args .key ∷ [] in
-    let e : ws ≡ bellRow (bellIn first (now (a .args .part))) =
-    λ i. wrote .ensures .0 i ∷ transposed .ensures .0 i ∷ least .ensures .0 i ∷ most .ensures .0 i ∷ c .byte3 .ensures .0 i ∷ 0 ∷ a .pre .1 i ∷ [] in
-    sets-placed (now (a .args .row)) 0 ws (omega (arith, a .pre .2)) ∙ placed-whole (now (a .args .row)) ws (a .pre .2) ∙ e
+    let a = c .before .before .before .before .before .before .before .before in
+    let wrote = c .before .before .before .before .before .byte in
+    let transposed = c .before .before .before .before .byte2 in
+    let least = c .before .before .before .be-16 in
+    let most = c .before .before .be-162 in
+    let priority = c .before .priority-in in
+    let rest = c .rest-in in
+    let ws = wrote .result ∷ transposed .result ∷ least .result ∷ most .result ∷ priority .result ∷ rest .result ∷ a .args .key ∷ [] in
+    let e : ws ≡ bellRow (bellIn (layoutOf (a .args .l)) (now (a .args .part))) =
+    λ i. wrote .ensures .0 i ∷ transposed .ensures .0 i ∷ least .ensures .0 i ∷ most .ensures .0 i ∷ priority .ensures i ∷ rest .ensures i ∷ a .pre .2 i ∷ [] in
+    sets-placed (now (a .args .row)) 0 ws (omega (arith, a .pre .3)) ∙ placed-whole (now (a .args .row)) ws (a .pre .3) ∙ e
 
 pub write-bell-spec : {M : Type 1} → statement M
 write-bell-spec =
@@ -77,8 +82,9 @@ write-bell-spec =
     slice-write-row-3
     be-16-requires-2
     slice-write-row-4
-    byte-requires-3
+    priority-in-requires
     slice-write-row-5
+    rest-in-requires
     slice-write-row-6
     slice-write-row-7
     same-length

@@ -11,7 +11,7 @@ use Rattle.fields.proofs.layout.layout_of.Tie as tie
 
 sub-result : tie.Need-sub-result
 unfolding isVersion
-sub-result c = omega (arith, within-true 1 2 (c .args .version) (c .pre))
+sub-result c = omega (arith, within-true 1 3 (c .args .version) (c .pre))
 
 cast-result : tie.Need-cast-result
 cast-result c = search needs
@@ -21,7 +21,7 @@ mul-result c = search needs
 
 array-copy-out-result : tie.Need-array-copy-out-result
 unfolding isVersion
-array-copy-out-result c = omega (arith, within-true 1 2 (c .args .version) (c .pre))
+array-copy-out-result c = omega (arith, within-true 1 3 (c .args .version) (c .pre))
 
 returns : tie.Need-returns
 unfolding layout

@@ -5,7 +5,7 @@ use native.Mathlib.Omega.{arith}
 use borrow.Author.Tests.{not-true, not-false}
 use Rattle.format.specs.Bytes.{within}
 use Rattle.format.specs.Phrase.{Bell, sounding}
-use Rattle.format.specs.Rules.{lowestKey, highestKey, isTransposition, bellInRange}
+use Rattle.format.specs.Rules.{lowestKey, highestKey, isTransposition, isExecutionRange, bellInRange}
 use Rattle.format.proofs.Passed.{within-true}
 use Rattle.format.proofs.Ranges.{transposition-small}
 use Rattle.fields.specs.internal.BellWith.{bellWith}
@@ -15,7 +15,7 @@ use Rattle.fields.proofs.rules.is_bell.Tie as tie
 
 -- the bell of the numbers
 abbrev bell : tie.Start → Bell
-bell c = bellWith (c .args .written) (c .args .transposition) (c .args .least) (c .args .most) (c .args .priority)
+bell c = bellWith (c .args .written) (c .args .transposition) (c .args .least) (c .args .most) (c .args .rest) (c .args .priority)
 
 -- ---- what each test says that was passed
 
@@ -31,6 +31,10 @@ sounds c = c .is-within2 .ensures ∙ ap (within lowestKey highestKey) (c .befor
 
 right-sounding : (c : tie.Else3) → within lowestKey highestKey (sounding (bell (c .before .before .before .before .before .before .before))) ≡ true
 right-sounding c = sym (sounds (c .before)) ∙ not-false (c .before .is-within2 .result) (c .if3 .left)
+
+right-execution : (c : tie.Else4) → let b = bell (c .before .before .before .before .before .before .before .before .before) in
+    isExecutionRange (b .leastExecution) (b .mostExecution) ≡ true
+right-execution c = sym (c .before .is-execution-range .ensures) ∙ not-false (c .before .is-execution-range .result) (c .if4 .left)
 
 is-within-requires : tie.Need-is-within-requires
 is-within-requires c κs = search needs
@@ -72,13 +76,26 @@ returns-4 c =
     let range = sym (c .before .is-execution-range .ensures) ∙ not-true (c .before .is-execution-range .result) (c .if4 .taken) in
     simp (right-key (d .before .before), right-transposition d, right-sounding e, range)
 
+is-rest-requires : tie.Need-is-rest-requires
+is-rest-requires c κs = search needs
+
 returns-5 : tie.Need-returns-5
 unfolding bellInRange
 returns-5 c =
-    let e = c .before .before in
+    let f = c .before .before in
+    let e = f .before .before in
     let d = e .before .before .before in
-    let range = sym (c .before .is-execution-range .ensures) ∙ not-false (c .before .is-execution-range .result) (c .if4 .left) in
-    simp (right-key (d .before .before), right-transposition d, right-sounding e, range)
+    let rest = sym (c .before .is-rest .ensures) ∙ not-true (c .before .is-rest .result) (c .if5 .taken) in
+    simp (right-key (d .before .before), right-transposition d, right-sounding e, right-execution f, rest)
+
+returns-6 : tie.Need-returns-6
+unfolding bellInRange
+returns-6 c =
+    let f = c .before .before in
+    let e = f .before .before in
+    let d = e .before .before .before in
+    let rest = sym (c .before .is-rest .ensures) ∙ not-false (c .before .is-rest .result) (c .if5 .left) in
+    simp (right-key (d .before .before), right-transposition d, right-sounding e, right-execution f, rest)
 
 pub is-bell-spec : {M : Type 1} → statement M
 is-bell-spec =
@@ -93,4 +110,6 @@ is-bell-spec =
     returns-3
     is-execution-range-requires
     returns-4
-    returns-5)
+    is-rest-requires
+    returns-5
+    returns-6)

@@ -5,8 +5,8 @@ use native.Mathlib.Omega.{arith}
 use denote.Ref.{now}
 use lib.ListN.{length}
 use borrow.Rule.Slice.PartMut.{putMid}
-use Rattle.format.specs.Layout.{first}
 use Rattle.format.specs.Reading.{bellIn}
+use Rattle.fields.specs.internal.Layouts.{layoutOf}
 use Rattle.rows.specs.BellRow.{bellWords, bellRow}
 use Rattle.rows.specs.PhraseTable.{bellRowsAt}
 use Rattle.words.proofs.Placing.{put-placed}
@@ -46,8 +46,9 @@ returns : tie.Need-returns
 returns c =
     let a = c .before .before .before .before .before .before .args in
     let at = bellRowsAt + a .i * bellWords in
-    let row = bellRow (bellIn first (now (a .part))) in
-    let l : length row ≡ at + bellWords - at = omega (arith, row-length (bellIn first (now (a .part)))) in
+    let bell = bellIn (layoutOf (a .l)) (now (a .part)) in
+    let row = bellRow bell in
+    let l : length row ≡ at + bellWords - at = omega (arith, row-length bell) in
     ap (putMid at (at + bellWords - at) (now (a .phrase))) (c .before .before .write-bell .ensures) ∙ put-placed (now (a .phrase)) at (at + bellWords - at) row l
 
 pub put-bell-spec : {M : Type 1} → statement M

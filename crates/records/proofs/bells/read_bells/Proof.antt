@@ -8,7 +8,7 @@ use mathlib.Core.Bool.{true, false}
 use borrow.Author.Tests.{not-true, not-false}
 use Rattle.model.specs.Refusals.{wrongEnd, wrongBellCount}
 use Rattle.format.specs.Bytes.{number, within}
-use Rattle.format.specs.Layout.{Layout, first, bellCountAt, bellsAt, mostBells}
+use Rattle.format.specs.Layout.{Layout, bellCountAt, bellsAt, mostBells}
 use Rattle.format.specs.Outcome.{refused}
 use Rattle.format.specs.Reading.{bellsFrom}
 use Rattle.fields.specs.internal.Layouts.{layoutOf}
@@ -90,6 +90,7 @@ bells-from-requires c κs =
     let d = b .before .before in
     let p = placed d in
     let bounds = within-true 1 mostBells (count p) (in-range (b .before)) in (
+      start p .pre .0,
       omega (arith, b .bells-at .ensures, p .bell-count-at .ensures, d .before .before .if1 .left),
       omega (arith, b .bells-at .ensures, start p .pre .0 .shift),
       omega (arith, bounds .1, counted (d .before)),
@@ -107,9 +108,9 @@ returns-3 c =
     let p = placed d in
     let s = now (start p .args .file) in
     let those = right-count (by p) s (omega (arith, p .bell-count-at .ensures, d .before .before .if1 .left)) (in-range (b .before)) in
-    let cast : bellsFrom first s (count p) (bellsAt (by p)) [] ≡ bellsFrom first s (d .before .byte .result) (b .bells-at .result) [] =
-    λ i. bellsFrom first s (sym (counted (d .before)) i) (sym (b .bells-at .ensures) i) [] in
-    let q = carried (λ o. HoldsBells (listOf o) (f .bells-from .last .1 .1 .1 .0)) (those ∙ cast) (f .bells-from .ensures .1) in
+    let cast : bellsFrom (by p) s (count p) (bellsAt (by p)) [] ≡ bellsFrom (by p) s (d .before .byte .result) (b .bells-at .result) [] =
+    λ i. bellsFrom (by p) s (sym (counted (d .before)) i) (sym (b .bells-at .ensures) i) [] in
+    let q = carried (λ o. HoldsBells (listOf o) (f .bells-from .last .1 .1 .1 .1 .0)) (those ∙ cast) (f .bells-from .ensures .1) in
     (f .bells-from .ensures .0 ∙ q .0, q .1)
 
 pub read-bells-spec : {M : Type 1} → statement M

@@ -8,11 +8,12 @@ use lib.ListN.{getD, set}
 use denote.Ref.{now}
 use borrow.Author.Tests.{not-true, not-false}
 use borrow.Author.Needs.{needs}
-use Rattle.format.specs.Layout.{first}
+use Rattle.format.specs.Layout.{Layout}
 use Rattle.format.specs.Phrase.{Bell, sounding, findSounding, isSome}
 use Rattle.format.specs.Rules.{bellInRange}
 use Rattle.format.proofs.Ranges.{bell-ranges}
 use Rattle.format.proofs.Steps.{outside, doubled, whole}
+use Rattle.fields.specs.internal.Layouts.{layoutOf}
 use Rattle.rows.specs.BellRow.{bellOfRow}
 use Rattle.records.specs.internal.Answers.{readingOf}
 use Rattle.rules.specs.internal.Asking.{Sounded}
@@ -22,15 +23,18 @@ use Rattle.rules.proofs.bells.ask_bell.Statement.{statement}
 use Rattle.rules.proofs.bells.ask_bell.Tie as tie
 
 abbrev start : tie.After-is-bell → tie.Start
-start c = c .before .before .before .before .before .before .before .before
+start c = c .before .before .before .before .before .before .before .before .before
 
--- the bell of the row
+-- the bell of the row, and the layout of the file
 abbrev bell : tie.After-is-bell → Bell
 bell c = bellOfRow (now (start c .args .row))
 
+abbrev by : tie.After-is-bell → Layout
+by c = layoutOf (start c .args .l)
+
 -- ---- what the tests say
 
-ranged : (c : tie.Else1) → bellInRange (bell (c .before)) ≡ true
+ranged : (c : tie.Else1) → bellInRange (by (c .before)) (bell (c .before)) ≡ true
 ranged c = sym (c .before .is-bell .ensures) ∙ not-false (c .before .is-bell .result) (c .if1 .left)
 
 abbrev tested : tie.After-is-sounded → tie.Else1
@@ -62,17 +66,20 @@ shared-slice-read-is-bell-2 c = search needs
 shared-slice-read-is-bell-3 : tie.Need-shared-slice-read-is-bell-3
 shared-slice-read-is-bell-3 c = search needs
 
+shared-slice-read-is-bell-4 : tie.Need-shared-slice-read-is-bell-4
+shared-slice-read-is-bell-4 c = search needs
+
 is-bell-requires : tie.Need-is-bell-requires
-is-bell-requires c κs = search needs
+is-bell-requires c κs = c .before .before .before .before .before .before .before .before .pre .0
 
 returns : tie.Need-returns
 returns c =
     let d = c .before in
-    let r : bellInRange (bell d) ≡ false = sym (d .is-bell .ensures) ∙ not-true (d .is-bell .result) (c .if1 .taken) in
-    ((λ before s. ap readingOf (sym (outside first before (start d .args .at) (bell d) r))), (λ e. not-whole _ _ e))
+    let r : bellInRange (by d) (bell d) ≡ false = sym (d .is-bell .ensures) ∙ not-true (d .is-bell .result) (c .if1 .taken) in
+    ((λ before s. ap readingOf (sym (outside (by d) before (start d .args .at) (bell d) r))), (λ e. not-whole _ _ e))
 
 transposed-requires : tie.Need-transposed-requires
-transposed-requires c κs = let r = bell-ranges (bell (c .before)) (ranged c) in (omega (arith, r .written), r .transposition)
+transposed-requires c κs = let r = bell-ranges (by (c .before)) (bell (c .before)) (ranged c) in (omega (arith, r .written), r .transposition)
 
 is-sounded-requires : tie.Need-is-sounded-requires
 is-sounded-requires c κs = search needs
@@ -86,7 +93,7 @@ returns-2 c =
     let d = t .before in (
       (λ before s.
           let f = some-there _ (sym (told (c .before) before s) ∙ c .if2 .taken) in
-          ap readingOf (sym (doubled first before (start d .args .at) (bell d) (ranged t) (f .0) (f .1)))),
+          ap readingOf (sym (doubled (by d) before (start d .args .at) (bell d) (ranged t) (f .0) (f .1)))),
       (λ e. not-whole _ _ e),
     )
 
@@ -95,8 +102,9 @@ cast-sounded c = search needs
 
 slice-write-sounded : tie.Need-slice-write-sounded
 slice-write-sounded c =
-    let r = bell-ranges (bell (tested (c .before) .before)) (ranged (tested (c .before))) in
-    omega (arith, r .sounds, sounds (c .before), start (tested (c .before) .before) .pre .1)
+    let t = tested (c .before) in
+    let r = bell-ranges (by (t .before)) (bell (t .before)) (ranged t) in
+    omega (arith, r .sounds, sounds (c .before), start (t .before) .pre .2)
 
 same-length-2 : tie.Need-same-length-2
 same-length-2 c = search needs
@@ -106,11 +114,11 @@ returns-3 c =
     let t = tested (c .before) in
     let d = t .before in
     let marks = now (start d .args .sounded) in
-    let r = bell-ranges (bell d) (ranged t) in (
-      (λ before s. ap readingOf (sym (whole first before (start d .args .at) (bell d) (ranged t) (none-there _ (sym (told (c .before) before s) ∙ c .if2 .left))))),
+    let r = bell-ranges (by d) (bell d) (ranged t) in (
+      (λ before s. ap readingOf (sym (whole (by d) before (start d .args .at) (bell d) (ranged t) (none-there _ (sym (told (c .before) before s) ∙ c .if2 .left))))),
       (λ e before s.
           subst (λ k. Sounded (before ++ bell d ∷ []) (set marks k 1)) (sym (sounds (c .before)))
-          (sounded-more before (bell d) marks s (omega (arith, r .sounds, start d .pre .1)))),
+          (sounded-more before (bell d) marks s (omega (arith, r .sounds, start d .pre .2)))),
     )
 
 pub ask-bell-spec : {M : Type 1} → statement M
@@ -122,6 +130,7 @@ ask-bell-spec =
     shared-slice-read-is-bell
     shared-slice-read-is-bell-2
     shared-slice-read-is-bell-3
+    shared-slice-read-is-bell-4
     is-bell-requires
     returns
     transposed-requires

@@ -9,7 +9,7 @@ use borrow.Author.Tests.{not-true, not-false}
 use borrow.Author.Needs.{needs}
 use Rattle.model.specs.Refusals.{wrongBellCount}
 use Rattle.format.specs.Bytes.{within}
-use Rattle.format.specs.Layout.{Layout, first, mostBells}
+use Rattle.format.specs.Layout.{Layout, mostBells}
 use Rattle.format.specs.Phrase.{Bell}
 use Rattle.format.specs.Rules.{bellsRules}
 use Rattle.format.proofs.Passed.{within-true}
@@ -72,7 +72,7 @@ bells-from-requires c κs =
     let at = c .before in
     let e = at .before .before in
     let s = start (e .before) in
-    (search needs, omega (arith, at .bells-at .ensures, s .pre .0 .shift), few e, s .pre .1, s .pre .2)
+    (s .pre .0, search needs, omega (arith, at .bells-at .ensures, s .pre .0 .shift), few e, s .pre .1, s .pre .2)
 
 same-length : tie.Need-same-length
 same-length c = search needs
@@ -84,7 +84,7 @@ returns-2 c =
     let e = at .before .before in
     let d = e .before in
     let all = right-count (by d) (bells d) (counted d ∙ not-false (d .is-within .result) (e .if1 .left)) in
-    (asked .bells-from .ensures .0 ∙ ap (λ k. readingOf (bellsRules first (bells d) k [])) (at .bells-at .ensures) ∙ ap readingOf (sym all), asked .bells-from .ensures .1)
+    (asked .bells-from .ensures .0 ∙ ap (λ k. readingOf (bellsRules (by d) (bells d) k [])) (at .bells-at .ensures) ∙ ap readingOf (sym all), asked .bells-from .ensures .1)
 
 pub ask-bells-spec : {M : Type 1} → statement M
 ask-bells-spec =

@@ -7,11 +7,13 @@ use denote.Ref.{now}
 use borrow.Author.Needs.{needs}
 use lib.ListN.{length, getD, take, drop}
 use lib.Seq.{take-suc, take-all}
-use Rattle.format.specs.Layout.{first, bellBytes}
+use Rattle.format.specs.Layout.{Layout, longestFile}
 use Rattle.format.specs.Jobs.{noBell}
 use Rattle.format.specs.Outcome.{Outcome, ok}
 use Rattle.format.specs.Phrase.{Bell}
 use Rattle.format.specs.Rules.{bellRules, bellsRules}
+use Rattle.format.proofs.Layouts.{rest-small}
+use Rattle.fields.specs.internal.Layouts.{layoutOf}
 use Rattle.rows.specs.BellRow.{bellWords, bellOfRow, bellsOfRows}
 use Rattle.rows.specs.PhraseTable.{bellRowsAt}
 use Rattle.rows.proofs.BellRow.{bells-length}
@@ -30,28 +32,31 @@ abbrev bells : List ℕ → ℕ → List Bell
 bells phrase n = bellsOfRows (drop bellRowsAt phrase) n
 
 abbrev Inv-loop : tie.InvT-loop
-Inv-loop phrase start n sounded₀ at₀ i₀ sounded at i =
+Inv-loop phrase l start n sounded₀ width at₀ i₀ sounded at i =
     (i ≤ n)
-    × (at ≡ start + i * bellBytes first)
+    × (at ≤ longestFile + i * 9)
     × (length sounded ≡ length sounded₀)
     × Sounded (take i (bells phrase n)) sounded
-    × (bellsRules first (drop i (bells phrase n)) at (take i (bells phrase n)) ≡ bellsRules first (bells phrase n) start [])
+    × (bellsRules (layoutOf l) (drop i (bells phrase n)) at (take i (bells phrase n)) ≡ bellsRules (layoutOf l) (bells phrase n) start [])
 
 abbrev μ-loop : tie.MeasureT-loop
-μ-loop phrase start n sounded₀ at₀ i₀ sounded at i = n - i
+μ-loop phrase l start n sounded₀ width at₀ i₀ sounded at i = n - i
 
 abbrev loop : tie.After-ask-bell Inv-loop μ-loop → tie.At-loop Inv-loop μ-loop
 loop c = c .before .before .before .before
 
 abbrev start : tie.After-ask-bell Inv-loop μ-loop → tie.Start Inv-loop μ-loop
-start c = loop c .before .before .before
+start c = loop c .before .before .before .before
+
+abbrev by : tie.After-ask-bell Inv-loop μ-loop → Layout
+by c = layoutOf (start c .args .l)
 
 -- the bells that are asked, and what is asked of the one in hand
 abbrev all : tie.After-ask-bell Inv-loop μ-loop → List Bell
 all c = bells (now (start c .args .phrase)) (start c .args .n)
 
 abbrev outcome : tie.After-ask-bell Inv-loop μ-loop → Outcome Bell
-outcome c = let v = loop c .loop in bellRules (take (v .i) (all c)) (v .at) (getD (all c) (v .i) noBell)
+outcome c = let v = loop c .loop in bellRules (by c) (take (v .i) (all c)) (v .at) (getD (all c) (v .i) noBell)
 
 -- the call that the answer comes from
 abbrev called : tie.After-enum-told Inv-loop μ-loop → tie.After-ask-bell Inv-loop μ-loop
@@ -71,10 +76,14 @@ row c =
 answer : (c : tie.After-ask-bell Inv-loop μ-loop) → c .ask-bell .result ≡ readingOf (outcome c)
 answer c =
     let v = loop c .loop in
-    c .ask-bell .ensures .0 (take (v .i) (all c)) (v .inv .3) ∙ ap (λ b. readingOf (bellRules (take (v .i) (all c)) (v .at) b)) (row c)
+    c .ask-bell .ensures .0 (take (v .i) (all c)) (v .inv .3) ∙ ap (λ b. readingOf (bellRules (by c) (take (v .i) (all c)) (v .at) b)) (row c)
 
 taken : (c : tie.After-enum-told Inv-loop μ-loop) → (b : Bell) × (outcome (called c) ≡ ok b)
 taken c = was-ok _ (sym (answer (called c)) ∙ c .enum-told .given .1)
+
+-- a record takes at most nine bytes
+nine : (c : tie.After-ask-bell Inv-loop μ-loop) → loop c .before .bell-bytes .result ≤ 9
+nine c = omega (arith, loop c .before .bell-bytes .ensures, rest-small (by c) (start c .pre .0))
 
 -- one bell more is done
 more : (c : tie.After-ask-bell Inv-loop μ-loop)
@@ -88,8 +97,11 @@ more c =
     let short : i < length (all c) = omega (arith, bells-length (now (start c .args .phrase)) (start c .args .n)) in
     ap (λ b. take i (all c) ++ b ∷ []) (row c) ∙ sym (take-suc (all c) i noBell short) ∙ ap (λ k. take k (all c)) one
 
+bell-bytes-requires : tie.Need-bell-bytes-requires Inv-loop μ-loop
+bell-bytes-requires c κs = search needs
+
 loop-holds : tie.Need-loop-holds Inv-loop μ-loop
-loop-holds c = (omega arith, omega arith, refl, c .before .before .pre .4, refl)
+loop-holds c = (omega arith, omega arith, refl, c .before .before .before .pre .5, refl)
 
 mul-from : tie.Need-mul-from Inv-loop μ-loop
 mul-from c = omega arith
@@ -114,11 +126,11 @@ part-ask-bell-end c = omega arith
 
 ask-bell-requires : tie.Need-ask-bell-requires Inv-loop μ-loop
 ask-bell-requires c κs =
-    let a = c .before .before .before .before .before .before in
+    let a = c .before .before .before .before .before .before .before in
     let v = c .before .before .before .loop in
     let from = bellRowsAt + v .i * bellWords in
     let width : from + bellWords - from ≡ bellWords = omega arith in
-    (part-length from (from + bellWords - from) (now (a .args .phrase)) (omega arith) ∙ width, omega (arith, v .inv .2, a .pre .3))
+    (a .pre .0, part-length from (from + bellWords - from) (now (a .args .phrase)) (omega arith) ∙ width, omega (arith, v .inv .2, a .pre .4))
 
 enum-told : tie.Need-enum-told Inv-loop μ-loop
 enum-told c = search needs
@@ -127,7 +139,7 @@ enum-told-2 : tie.Need-enum-told-2 Inv-loop μ-loop
 enum-told-2 c = search needs
 
 same-length : tie.Need-same-length Inv-loop μ-loop
-same-length c = let d = c .before .before .before .before in d .ask-bell .kept .1 .1 .0 ∙ loop d .loop .inv .2
+same-length c = let d = c .before .before .before .before in d .ask-bell .kept .1 .1 .1 .0 ∙ loop d .loop .inv .2
 
 returns : tie.Need-returns Inv-loop μ-loop
 returns c =
@@ -135,11 +147,11 @@ returns c =
     let v = loop d .loop in
     let q = was-refused (outcome d) _ _ (sym (answer d) ∙ c .enum-told2 .given .1) in
     let short : v .i < length (all d) = omega (arith, bells-length (now (start d .args .phrase)) (start d .args .n)) in
-    let w = stop-bell first (all d) (v .i) (v .at) short _ _ q in
+    let w = stop-bell (by d) (all d) (v .i) (v .at) short _ _ q in
     (c .enum-told2 .given .1 ∙ ap readingOf (sym w ∙ v .inv .4), (λ e. not-whole _ _ (sym (c .enum-told2 .given .1) ∙ e)))
 
 add-at : tie.Need-add-at Inv-loop μ-loop
-add-at c = omega arith
+add-at c = omega (arith, nine (called c))
 
 add-i : tie.Need-add-i Inv-loop μ-loop
 add-i c = omega arith
@@ -154,10 +166,12 @@ loop-again c =
     let b = taken c in
     let short : v .i < length (all d) = omega (arith, bells-length (now (start d .args .phrase)) (start d .args .n)) in (
       omega arith,
-      omega arith,
-      d .ask-bell .kept .1 .1 .0 ∙ v .inv .2,
-      subst (λ l. Sounded l (d .ask-bell .last .1 .1 .0)) (more d) (d .ask-bell .ensures .1 (c .enum-told .given .1) (take (v .i) (all d)) (v .inv .3)),
-      sym (next-bell first (all d) (v .i) (v .at) short (b .0) (b .1)) ∙ v .inv .4,
+      omega (arith, nine d),
+      d .ask-bell .kept .1 .1 .1 .0 ∙ v .inv .2,
+      subst (λ l. Sounded l (d .ask-bell .last .1 .1 .1 .0)) (more d) (d .ask-bell .ensures .1 (c .enum-told .given .1) (take (v .i) (all d)) (v .inv .3)),
+      ap (λ k. bellsRules (by d) (drop (v .i + 1) (all d)) (v .at + k) (take (v .i + 1) (all d))) (loop d .before .bell-bytes .ensures)
+          ∙ sym (next-bell (by d) (all d) (v .i) (v .at) short (b .0) (b .1))
+          ∙ v .inv .4,
     )
 
 same-length-2 : tie.Need-same-length-2 Inv-loop μ-loop
@@ -165,11 +179,11 @@ same-length-2 c = c .before .loop .inv .2
 
 returns-2 : tie.Need-returns-2 Inv-loop μ-loop
 returns-2 c =
-    let a = c .before .before .before .before .args in
+    let a = c .before .before .before .before .before .args in
     let v = c .before .loop in
     let t = bells (now (a .phrase)) (a .n) in
     let end : length t ≤ v .i = omega (arith, bells-length (now (a .phrase)) (a .n)) in
-    let w = last-bell first t (v .i) (v .at) end in
+    let w = last-bell (layoutOf (a .l)) t (v .i) (v .at) end in
     (ap readingOf (sym w ∙ v .inv .4), (λ e. subst (λ l. Sounded l (v .sounded)) (take-all (v .i) t end) (v .inv .3)))
 
 pub bells-from-spec : {M : Type 1} → statement M
@@ -178,6 +192,7 @@ bells-from-spec =
     (tie.spec
     Inv-loop
     μ-loop
+    bell-bytes-requires
     loop-holds
     mul-from
     add-from

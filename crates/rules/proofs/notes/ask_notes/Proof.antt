@@ -1,12 +1,12 @@
 -- `notes::ask_notes` meets its contract. Assumes nothing.
-use Prim.Native.Nat.{_+_, _≤_}
+use Prim.Native.Nat.{_+_, _≤_, _<_}
 use mathlib.Core.Path.{_≡_, refl, sym, ap, _∙_}
 use mathlib.Core.List.{[]}
 use native.Mathlib.Omega.{arith}
 use lib.ListN.{length, getD, drop}
 use denote.Ref.{now}
 use borrow.Author.Needs.{needs}
-use Rattle.format.specs.Layout.{Layout, first, mostBells, noteCountAt}
+use Rattle.format.specs.Layout.{Layout, first, mostBells, noteCountAt, longestFile}
 use Rattle.format.specs.Phrase.{Phrase}
 use Rattle.format.specs.Rules.{notesRules}
 use Rattle.fields.specs.internal.Layouts.{layoutOf}
@@ -17,7 +17,7 @@ use Rattle.rows.proofs.Records.{rows-length}
 use Rattle.rules.specs.internal.Answers.{endOf}
 use Rattle.rules.specs.internal.Asking.{notesEnd, bodyEnd}
 use Rattle.rules.specs.declared.answers.Writing.the-variants.{Refused}
-use Rattle.rules.proofs.Counting.{too-many, few-enough}
+use Rattle.rules.proofs.Counting.{count-within, too-many, few-enough}
 use Rattle.rules.proofs.notes.ask_notes.Statement.{statement}
 use Rattle.rules.proofs.notes.ask_notes.Tie as tie
 
@@ -44,6 +44,12 @@ few s = omega (arith, s .pre .1, bells-counted s)
 place : (c : tie.After-note-count-at) → let s = c .before .before .before in c .note-count-at .result ≡ noteCountAt (by s) (length (phrase s .bells))
 place c = let s = c .before .before .before in c .note-count-at .ensures ∙ ap (noteCountAt (by s)) (sym (bells-counted s))
 
+-- it lies in the longest file
+within : (c : tie.After-note-count-at) → c .note-count-at .result < longestFile
+within c =
+    let s = c .before .before .before in
+    omega (arith, c .note-count-at .ensures, count-within (by s) (s .pre .0) (getD (now (s .args .phrase)) bellCountWord 0) (few s))
+
 element-copy-out-note-count-at : tie.Need-element-copy-out-note-count-at
 element-copy-out-note-count-at c = search needs
 
@@ -68,9 +74,7 @@ returns c =
     ap (Refused 8) (place d) ∙ ap (λ o. endOf o (bodyEnd (by s) x)) (sym many)
 
 add-notes-from : tie.Need-add-notes-from
-add-notes-from c =
-    let d = c .before .before .before in
-    omega (arith, d .note-count-at .ensures, few (d .before .before .before), d .before .before .before .pre .0 .shift)
+add-notes-from c = omega (arith, within (c .before .before .before))
 
 cast-notes-from : tie.Need-cast-notes-from
 cast-notes-from c = omega (arith, c .before .if1 .left)
@@ -79,7 +83,7 @@ notes-from-requires : tie.Need-notes-from-requires
 notes-from-requires c κs =
     let d = c .before .before .before in
     let s = d .before .before .before in
-    (search needs, c .before .if1 .left, omega (arith, d .note-count-at .ensures, few s, s .pre .0 .shift), s .pre .2, s .pre .3, s .pre .4)
+    (search needs, c .before .if1 .left, omega (arith, within d), s .pre .2, s .pre .3, s .pre .4)
 
 returns-2 : tie.Need-returns-2
 returns-2 c =

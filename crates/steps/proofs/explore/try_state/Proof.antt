@@ -62,7 +62,7 @@ few c =
     omega (arith, as-many c, ap length (listed c), few-listed (candidate (jobsIn (a .shape) (now (a .rows))) (stateIn (a .shape) (now (a .cur)))) (a .shape .jobs))
 
 readable : (c : tie.After-list-candidates Inv-loop μ-loop) → Readable (now (entry c .args .rows)) (entry c .args .shape .jobs) (now (entry c .args .cur)) (entry c .args .shape .cores)
-readable c = record { setting = entry c .pre .0 .0; words = entry c .pre .1 .0 }
+readable c = record { setting = entry c .pre .0 .0; words = entry c .pre .1 .0; bounded = entry c .pre .1 .1 .bounded }
 
 slice-aggregate-survey : tie.Need-slice-aggregate-survey Inv-loop μ-loop
 slice-aggregate-survey c = sym (as-many (c .before .before))
@@ -73,8 +73,7 @@ slice-aggregate-survey-2 c = search needs
 survey-requires : tie.Need-survey-requires Inv-loop μ-loop
 survey-requires c κs =
     let x = c .before .before .before in
-    let p = entry x .pre in
-    (record { readable = readable x; bounded = p .1 .1 .bounded; listed = listed x }, p .0 .0 .jobs)
+    (record { readable = readable x; listed = listed x }, entry x .pre .0 .0 .jobs)
 
 loop-holds : tie.Need-loop-holds Inv-loop μ-loop
 loop-holds c =
@@ -118,7 +117,7 @@ edge-of-requires c κs =
     let js = jobsIn (entry x .args .shape) (now (entry x .args .rows)) in
     let σ = stateIn (entry x .args .shape) (now (entry x .args .cur)) in
     let e = o .before .before .before .survey .ensures in (
-      (omega (arith, j .0, read o), readable x, p .1 .1 .bounded, p .0 .1, p .0 .2),
+      (omega (arith, j .0, read o), readable x, p .0 .1, p .0 .2),
       (ap (candidate js σ) (sym (read o)) ∙ j .1, e .0, e .1 .1),
     )
 

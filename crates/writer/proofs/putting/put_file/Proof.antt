@@ -61,8 +61,8 @@ head-long c =
     let kept : length (c .put-head .last .0) ≡ at = c .put-head .kept .0 ∙ length-take-le at f (within (laid c)) in
     length-append (c .put-head .last .0) (drop at f) ∙ omega (arith, kept, within (laid c), length-drop at f)
 
-bells-long : (c : tie.After-put-bells) → length (c .put-bells .last .1 .1 .1 .0) ≡ length (file (laid (headed c) .before))
-bells-long c = c .put-bells .kept .1 .1 .1 .0 ∙ head-long (headed c)
+bells-long : (c : tie.After-put-bells) → length (c .put-bells .last .1 .1 .1 .1 .0) ≡ length (file (laid (headed c) .before))
+bells-long c = c .put-bells .kept .1 .1 .1 .1 .0 ∙ head-long (headed c)
 
 element-copy-out-version : tie.Need-element-copy-out-version
 element-copy-out-version c = search needs
@@ -119,6 +119,7 @@ put-bells-requires c κs =
     let at = laid head in
     let l = at .before in
     let v = start l .pre .0 in (
+      small l,
       search needs,
       few-bells (words l) v,
       omega (arith, head-long head, at .bells-at .ensures, long l),
@@ -188,7 +189,7 @@ returns c =
     ∙ ap (λ s. placed s (to + 1) (records (noteFile first) (x .notes)))
     (count .put-8 .ensures
     ∙ ap (λ s. placed s to (digits 1 (getD (words l) noteCountWord 0)))
-    (bells .put-bells .ensures ∙ ap (λ s. placed (s ++ drop from (file l)) from (records (bellFile first) (x .bells))) (head .put-head .ensures)))
+    (bells .put-bells .ensures ∙ ap (λ s. placed (s ++ drop from (file l)) from (records (bellFile (by l)) (x .bells))) (head .put-head .ensures)))
     ∙ file-put (words l) (start l .pre .0) (l .layout-of .result) (l .layout-of .ensures) (file l) (start l .pre .1) from to (at .bells-at .ensures) (place .note-count-at .ensures)
 
 pub put-file-spec : {M : Type 1} → statement M
