@@ -10,6 +10,7 @@ use Rattle.format.specs.Phrase.{Phrase}
 use Rattle.format.specs.Outcome.{Outcome}
 use Rattle.format.specs.Reading.{reading}
 use Rattle.format.specs.examples.Files.{fileP}
+use Rattle.format.specs.examples.Rests.{fileR}
 use Rattle.format.specs.examples.Shifts.{fileS}
 use Rattle.checking.specs.Checking.{verdict, usedWords, perJob, checkedOf, answerFor, Values, valuesOf, boundsOf}
 use Rattle.checking.specs.declared.Answer.{Answer}
@@ -46,6 +47,10 @@ noStroke = take 22 (set (set fileP 4 0x11) 21 0x00)
 -- shifted by 14: keys 60 and 46, as written, strike bell 1 (74) and bell 0 (60); and stroke 0 is due at 9
 abbrev pub exchanged : List ℕ
 exchanged = set (set (set (set fileS 6 0x0E) 24 0x3C) 36 0x09) 38 0x2E
+
+-- R, whose first bell rests 300, with stroke 1 on that bell too, due at 256 and this low byte more
+abbrev pub struckAgain : ℕ → List ℕ
+struckAgain low = set (set (set fileR 42 0x40) 53 0x01) 54 low
 
 -- ---- what is due for a file and a table
 
@@ -127,6 +132,9 @@ verdicts =
     -- twc 5; job 0 ends 6..9.
     ∷ lent exchanged 32 (accepted (range 6 9 ∷ range 2 2 ∷ []) 3)
     ∷ lent noStroke 8 (accepted [] 1)
+    -- stroke 0 ends 2..7; then stroke 1 waits for the rest, starts from 302 to 307 and ends 304..309, in time by 309 and not by 308
+    ∷ lent (struckAgain 0x35) 32 (accepted (range 2 7 ∷ range 304 309 ∷ []) 3)
+    ∷ lent (struckAgain 0x34) 32 (late 1 304 309)
     ∷ []
 
 pub as-judged : given verdict verdicts ≡ dues verdicts
