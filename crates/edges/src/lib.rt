@@ -110,8 +110,8 @@ pub fn list_candidates(sets: &[u64], k: usize, s: &[u32], m: usize, list: &mut [
     n
 }
 
-// From when on the bell of job i has possibly rested: the earliest finish of the job before on it, the last of the predecessors, and the rest; 0 where it does
-// not have to.
+// From when on the bell of job i has possibly rested: the earliest finish of the job before it on the bell, its last predecessor, and the rest. 0 where it has
+// not to rest.
 fn possibly_rested(rows: &[u32], k: usize, s: &[u32], m: usize, i: usize) -> u32
     requires { ⌜ (i < k) × Readable (now rows) k (now s) m ⌝ }
     ensures { λ r. ⌜ r ≡ restedAfter (jobsOfRows (now (rows .entry)) k) i (λ w. earliest (finishOf (stateOf m k (now (s .entry))) w)) ⌝ }
@@ -180,7 +180,7 @@ fn latest_finish_beside(rows: &[u32], k: usize, s: &[u32], m: usize, i: usize, w
 }
 
 // (6) From when on job j is certainly ready where another job i is ready: the larger of rb and the F of those waits of j that are not waits of i. The last wait
-// counts with its rest even if i has it too: no two jobs wait for one rest.
+// counts with its rest even where it is a wait of i too: that rest is for j alone.
 fn certainly_ready_beside(rows: &[u32], k: usize, s: &[u32], m: usize, i: usize, j: usize) -> u32
     requires { ⌜ (i < k) × (j < k) × Readable (now rows) k (now s) m × (i ≡ j → ⊥) ⌝ }
     ensures { λ r. ⌜ r ≡ certainlyReadyBeside (jobsOfRows (now (rows .entry)) k) (stateOf m k (now (s .entry))) i j ⌝ }
