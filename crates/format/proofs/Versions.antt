@@ -11,7 +11,7 @@ use Rattle.format.specs.Outcome.{Outcome, _>>=_, _>>_, require}
 use Rattle.format.specs.Phrase.{Bell, Note}
 use Rattle.format.specs.Rules.{isRest, bellInRange, bellRules, noteRules, bellsRules, notesRules}
 use Rattle.format.specs.Reading.{bellIn, bellRecord, noteIn, noteRecord, bellsFrom, notesFrom}
-use Rattle.format.specs.Writing.{bellFile, noteFile}
+use Rattle.format.specs.Writing.{noteFile}
 use Rattle.format.proofs.Passed.{same-then}
 
 -- There are three versions.
@@ -50,11 +50,6 @@ module _ (k l : Layout) (same : k .restBytes ≡ l .restBytes) where
   bells-rules (b ∷ bs) at before =
       (λ i. _>>=_ (bell-rules before at b i) (λ c. bellsRules k bs (at + (7 + same i)) (before ++ c ∷ [])))
       ∙ same-then (bellRules l before at b) _ _ (λ c. bells-rules bs (at + bellBytes l) (before ++ c ∷ []))
-
-  -- A bell has the same bytes.
-  pub bell-file : bellFile k ≡ bellFile l
-  unfolding bellFile
-  bell-file = rw (← same) refl
 
 -- ---- notes
 

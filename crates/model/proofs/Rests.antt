@@ -8,10 +8,10 @@ use mathlib.Core.List.{List, [], _∷_, _++_}
 use mathlib.Core.Option.{Option, none, some}
 use native.Mathlib.Numerals.{lt-of-le-of-ne}
 use native.Mathlib.Omega.{arith}
-use lib.Dec.{leb, ltb, eqb}
-use lib.ListN.{getD, length, length-append, List·getD-append}
+use lib.Dec.{leb, eqb}
+use lib.ListN.{getD, length, length-append}
 use lib.Seq.{getD-append-seam}
-use borrow.Author.Tests.{leb-true, leb-false, le-leb, lt-leb, ltb-true, ltb-false, eqb-true, eq-eqb, ne-eqb}
+use borrow.Author.Tests.{leb-true, leb-false, le-leb, lt-leb, eqb-true, eq-eqb, ne-eqb}
 use Rattle.model.specs.Folds.{member, largest, all}
 use Rattle.model.specs.Jobs.{Job, job, nearest, asList, predecessors, restOf}
 use Rattle.model.specs.States.{Range, empty, range, earliest, latest, State, finishOf}
@@ -215,34 +215,6 @@ module _ (js : List Job) (i : ℕ) where
       go : (o : Option ℕ) → length (job js i .listed ++ asList o) ≤ length (job js i .listed) → o ≡ none
       go none l = refl
       go (some p) l = absurd (omega (arith, length-append (job js i .listed) (p ∷ [])))
-
-  -- that one has the job's rest
-  pub rest-last : length (job js i .listed) < length (predecessors js i)
-      → restOf js i (getD (predecessors js i) (length (job js i .listed)) 0) ≡ job js i .rest
-  rest-last h =
-      rest-nearest js i last (last-nearest h) last ∙ ap (λ (c : Bool). cond c (job js i .rest) 0) (eq-eqb last last refl)
-    where
-      last : ℕ
-      last = getD (predecessors js i) (length (job js i .listed)) 0
-
-  -- a listed one that is not the nearest has none
-  pub rest-listed : (j : ℕ) → j < length (job js i .listed) → (nearest js (job js i .bell) i ≡ some (getD (job js i .listed) j 0) → ⊥)
-      → restOf js i (getD (predecessors js i) j 0) ≡ 0
-  unfolding predecessors
-  rest-listed j b d =
-      ap (restOf js i) (List·getD-append (job js i .listed) (asList (nearest js (job js i .bell) i)) 0 j b)
-      ∙ ⊎-elim (λ e. e) (λ e. absurd (d e)) (rest-cases js i (getD (job js i .listed) j 0))
-
-  -- so one comparison with the place past the listed ones tells the rest of any wait
-  pub rest-by-place : (w : ℕ)
-      → restOf js i w
-      ≡ cond (ltb (length (job js i .listed)) (length (predecessors js i)) && eqb w (getD (predecessors js i) (length (job js i .listed)) 0)) (job js i .rest) 0
-  rest-by-place w = go (ltb (length (job js i .listed)) (length (predecessors js i))) refl
-    where
-      go : (c : Bool) → ltb (length (job js i .listed)) (length (predecessors js i)) ≡ c
-          → restOf js i w ≡ cond (c && eqb w (getD (predecessors js i) (length (job js i .listed)) 0)) (job js i .rest) 0
-      go true e = rest-nearest js i _ (last-nearest (ltb-true _ _ e)) w
-      go false e = rest-alone js i (none-nearest (ltb-false _ _ e)) w
 
 -- ---- bounds
 
