@@ -1,4 +1,4 @@
--- What the versions have alike: the records of bells wherever a rest takes as many bytes, and those of notes wherever a number listed takes one. Assumes nothing.
+-- What the versions have alike: the ranges of a bell wherever a rest takes as many bytes, and the records of notes wherever a number listed takes one. Assumes nothing.
 use Prim.Native.Nat.{ℕ, zero, suc, _+_}
 use mathlib.Core.Path.{_≡_, refl, ap, _∙_}
 use mathlib.Core.List.{List, [], _∷_, _++_}
@@ -6,11 +6,11 @@ use lib.Dec.{leb}
 use lib.ListN.{length, drop}
 use Rattle.model.specs.Refusals.{wrongNoteLength}
 use Rattle.format.specs.Bytes.{number, within}
-use Rattle.format.specs.Layout.{Layout, first, isVersion, bellBytes, mostListed, listedCount, isNoteLength, noteLength}
+use Rattle.format.specs.Layout.{Layout, first, isVersion, mostListed, listedCount, isNoteLength, noteLength}
 use Rattle.format.specs.Outcome.{Outcome, _>>=_, _>>_, require}
 use Rattle.format.specs.Phrase.{Bell, Note}
-use Rattle.format.specs.Rules.{isRest, bellInRange, bellRules, noteRules, bellsRules, notesRules}
-use Rattle.format.specs.Reading.{bellIn, bellRecord, noteIn, noteRecord, bellsFrom, notesFrom}
+use Rattle.format.specs.Rules.{isRest, bellInRange, noteRules, notesRules}
+use Rattle.format.specs.Reading.{noteIn, noteRecord, notesFrom}
 use Rattle.format.specs.Writing.{noteFile}
 use Rattle.format.proofs.Passed.{same-then}
 
@@ -26,30 +26,6 @@ module _ (k l : Layout) (same : k .restBytes ≡ l .restBytes) where
   pub bell-in-range : (b : Bell) → bellInRange k b ≡ bellInRange l b
   unfolding bellInRange isRest
   bell-in-range b = rw (← same) refl
-
-  bell-rules : (before : List Bell) (at : ℕ) (b : Bell) → bellRules k before at b ≡ bellRules l before at b
-  unfolding bellRules
-  bell-rules before at b = rw bell-in-range refl
-
-  bell-record : (before : List Bell) (at : ℕ) (p : List ℕ) → bellRecord k before at p ≡ bellRecord l before at p
-  unfolding bellRecord bellIn bellRules bellInRange isRest
-  bell-record before at p = rw (← same) refl
-
-  -- Bells are read alike from a place on.
-  pub bells-from : (s : List ℕ) (n at : ℕ) (before : List Bell) → bellsFrom k s n at before ≡ bellsFrom l s n at before
-  unfolding bellsFrom
-  bells-from s zero at before = refl
-  bells-from s (suc n) at before =
-      (λ i. _>>=_ (bell-record before at (drop at s) i) (λ b. bellsFrom k s n (at + (7 + same i)) (before ++ b ∷ [])))
-      ∙ same-then (bellRecord l before at (drop at s)) _ _ (λ b. bells-from s n (at + bellBytes l) (before ++ b ∷ []))
-
-  -- The rules ask the same of bells from a place on.
-  pub bells-rules : (bs : List Bell) (at : ℕ) (before : List Bell) → bellsRules k bs at before ≡ bellsRules l bs at before
-  unfolding bellsRules
-  bells-rules [] at before = refl
-  bells-rules (b ∷ bs) at before =
-      (λ i. _>>=_ (bell-rules before at b i) (λ c. bellsRules k bs (at + (7 + same i)) (before ++ c ∷ [])))
-      ∙ same-then (bellRules l before at b) _ _ (λ c. bells-rules bs (at + bellBytes l) (before ++ c ∷ []))
 
 -- ---- notes
 
