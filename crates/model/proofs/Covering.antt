@@ -25,6 +25,30 @@ unfolding count
 count-zeros u zero = refl
 count-zeros u (suc n) = omega (arith, weighs-one 0 u zero-le, count-zeros u n)
 
+-- the initial state covers the beginning of a run
+pub covers-initial : (js : List Job) (m : ℕ) → Covers m (initial m (length js)) 0 (none-started js)
+covers-initial js m =
+    record {
+      finishes = λ k. rw (getD-same (length js) k empty, getD-same (length js) k unstarted) tt;
+      possibly = λ u l. omega (arith, count-zeros u m);
+      certainly = λ u l. omega (arith, count-zeros u m, count-none (runsPast u) (length js) unstarted refl);
+    }
+
+-- what covers a run at t covers it later too, while no job starts
+pub covers-later : (m : ℕ) (σ : State) (t : ℕ) (h : List Entry) → Covers m σ t h → Covers m σ (suc t) h
+covers-later m σ t h d = record { finishes = d .finishes; possibly = λ u l. d .possibly u (omega arith); certainly = d .certainly }
+
+-- the start of a job is one more
+pub one-more : (js : List Job) (m : ℕ) (s : Scenario) (t : ℕ) (h : List Entry) (i : ℕ) → Start js m s t h i
+    → count hasStarted (set h i (ran t (t + s .execution i))) ≡ suc (count hasStarted h)
+one-more js m s t h i start =
+    omega (arith, count-set hasStarted h i (ran t (t + s .execution i)) unstarted (omega (arith, start .inside, start .inv .all-jobs)), ap ind (start .is .fresh))
+
+-- and there was room for it
+pub some-left : (js : List Job) (m : ℕ) (s : Scenario) (t : ℕ) (h : List Entry) (i : ℕ) → Start js m s t h i → count hasStarted h < length js
+some-left js m s t h i start =
+    omega (arith, count-below hasStarted h i unstarted (omega (arith, start .inside, start .inv .all-jobs)) (start .is .fresh), start .inv .all-jobs)
+
 module _ (js : List Job) (m : ℕ) (s : Scenario) (bounds : List Range) (levels : ℕ → List State) where
   -- a job that has started finishes within its bounds and in time
   abbrev pub EntryInBounds : ℕ → Entry → Type 0
@@ -48,16 +72,13 @@ module _ (js : List Job) (m : ℕ) (s : Scenario) (bounds : List Range) (levels 
       in-history : i < length h
       in-history = omega (arith, start .inside, start .inv .all-jobs)
 
-      one-more : count hasStarted new ≡ suc (count hasStarted h)
-      one-more = omega (arith, count-set hasStarted h i (ran t f) unstarted in-history, ap ind (start .is .fresh))
-
       abbrev Started : Type 0
       Started = EntryInBounds i (ran t f) × Any (λ σ. Covers m σ t new) (levels (suc (count hasStarted h)))
 
       -- some state of the level covers the run: its edge for i is covered too
       started : Any (λ σ. Covers m σ t h) (levels (count hasStarted h)) → Started
       started covers =
-          go (any-all (levels n) (coverage .shaped n) (coverage .edges n (omega (arith, count-below hasStarted h i unstarted in-history (start .is .fresh), start .inv .all-jobs))) covers)
+          go (any-all (levels n) (coverage .shaped n) (coverage .edges n (some-left js m s t h i start)) covers)
         where
           n : ℕ
           n = count hasStarted h
@@ -77,31 +98,23 @@ module _ (js : List Job) (m : ℕ) (s : Scenario) (bounds : List Range) (levels 
 
     -- ---- the run
 
-    covers-initial : Covers m (initial m (length js)) 0 (none-started js)
-    covers-initial =
-        record {
-          finishes = λ k. rw (getD-same (length js) k empty, getD-same (length js) k unstarted) tt;
-          possibly = λ u l. omega (arith, count-zeros u m);
-          certainly = λ u l. omega (arith, count-zeros u m, count-none (runsPast u) (length js) unstarted refl);
-        }
-
     pub covered : Lasting js m s Covered
     covered =
         record {
           begins =
               record {
-                covers = rw (count-none hasStarted (length js) unstarted refl) (any-map (levels 0) (λ τ c. covers-wider m τ (initial m (length js)) 0 (none-started js) c covers-initial) (coverage .begins));
+                covers = rw (count-none hasStarted (length js) unstarted refl) (any-map (levels 0) (λ τ c. covers-wider m τ (initial m (length js)) 0 (none-started js) c (covers-initial js m)) (coverage .begins));
                 in-bounds = λ k. rw (getD-same (length js) k unstarted) tt;
               };
           starts = λ t h i start c.
               let x = started t h i start (c .covers) in
               record {
-                covers = rw (one-more t h i start) (x .1);
+                covers = rw (one-more js m s t h i start) (x .1);
                 in-bounds = set-each EntryInBounds h i (ran t (t + s .execution i)) unstarted (in-history t h i start) (c .in-bounds) (x .0);
               };
           passes = λ t h inv c.
               record {
-                covers = any-map (levels (count hasStarted h)) (λ σ d. record { finishes = d .finishes; possibly = λ u l. d .possibly u (omega arith); certainly = d .certainly }) (c .covers);
+                covers = any-map (levels (count hasStarted h)) (λ σ d. covers-later m σ t h d) (c .covers);
                 in-bounds = c .in-bounds;
               };
         }

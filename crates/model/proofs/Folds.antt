@@ -13,7 +13,7 @@ use lib.ListN.{getD, length, set, replicate}
 use lib.Seq.{getD-set-same, getD-set-other}
 use borrow.Author.Tests.{leb-true, leb-false, eqb-true, eq-eqb}
 use Rattle.model.specs.Folds.{ind, count, every, member, largest, all, Limit, infinite, finite, smaller, smallest, sum, largestBelow}
-use Rattle.model.proofs.Booleans.{cases, and-left, and-right, and-both, or-left, or-right, or-cases, ind-le}
+use Rattle.model.proofs.Booleans.{cases, clash, and-left, and-right, and-both, or-left, or-right, or-cases, ind-le}
 
 -- ---- elements
 
@@ -112,51 +112,40 @@ at-largest f (x ∷ xs) (suc k) d e = omega (arith, at-largest f xs k d e)
 
 -- ---- the smallest
 
--- a finite limit is attained by a number that passes
-abbrev pub Attained : (ℕ → Bool) → (ℕ → ℕ) → ℕ → Limit → Type 0
-Attained p f n infinite = Unit {0}
-Attained p f n (finite x) = (j : ℕ) × (j < n) × (p j ≡ true) × (f j ≤ x)
-
-attained-more : (p : ℕ → Bool) (f : ℕ → ℕ) (n : ℕ) (l : Limit) → Attained p f n l → Attained p f (suc n) l
-attained-more p f n infinite w = tt
-attained-more p f n (finite x) w = (w .0, omega (arith, w .1), w .2, w .3)
-
-attained-new : (p : ℕ → Bool) (f : ℕ → ℕ) (n : ℕ) (l : Limit) → p n ≡ true → Attained p f n l → Attained p f (suc n) (smaller (f n) l)
-attained-new p f n infinite e w = (n, omega arith, e, omega arith)
-attained-new p f n (finite y) e w = go (cases (leb (f n) y))
+-- what holds below n, and at n, holds below n + 1
+pub below-suc : (P : ℕ → Type 0) (n : ℕ) → ((j : ℕ) → j < n → P j) → P n → (j : ℕ) → j < suc n → P j
+below-suc P n f x j h = go (ℕ-discrete j n)
   where
-    go : (leb (f n) y ≡ true) ⊎ (leb (f n) y ≡ false) → Attained p f (suc n) (finite (min (f n) y))
-    go (inl q) = (n, omega arith, e, omega (arith, leb-true (f n) y q))
-    go (inr q) = (w .0, omega (arith, w .1), w .2, omega (arith, leb-false (f n) y q, w .3))
+    go : Dec (j ≡ n) → P j
+    go (yes e) = subst P (sym e) x
+    go (no d) = f j (lt-of-le-of-ne (le-of-suc-le-suc h) d)
 
--- a finite smallest is reached by an element that passes
-pub smallest-attained : (p : ℕ → Bool) (f : ℕ → ℕ) (n : ℕ) → Attained p f n (smallest p f n)
+-- of the numbers below n: none passes; or x is f of one that passes, and at most f of each that does
+abbrev pub Smallest : (ℕ → Bool) → (ℕ → ℕ) → ℕ → Limit → Type 0
+Smallest p f n infinite = (j : ℕ) → j < n → p j ≡ true → ⊥
+Smallest p f n (finite x) = ((j : ℕ) × (j < n) × (p j ≡ true) × (f j ≡ x)) × ((j : ℕ) → j < n → p j ≡ true → x ≤ f j)
+
+-- the smallest is such
+pub smallest-is : (p : ℕ → Bool) (f : ℕ → ℕ) (n : ℕ) → Smallest p f n (smallest p f n)
 unfolding smallest
-smallest-attained p f zero = tt
-smallest-attained p f (suc n) = go (p n) refl (smallest-attained p f n)
+smallest-is p f zero = λ j h e. absurd (not-suc-le-zero h)
+smallest-is p f (suc n) = go (p n) refl (smallest p f n) (smallest-is p f n)
   where
-    go : (b : Bool) → p n ≡ b → Attained p f n (smallest p f n) → Attained p f (suc n) (cond b (smaller (f n) (smallest p f n)) (smallest p f n))
-    go true e w = attained-new p f n (smallest p f n) e w
-    go false e w = attained-more p f n (smallest p f n) w
+    both : (x : ℕ) → p n ≡ true → Smallest p f n (finite x) → (leb (f n) x ≡ true) ⊎ (leb (f n) x ≡ false) → Smallest p f (suc n) (finite (min (f n) x))
+    both x q s (inl e) =
+        let l = leb-true (f n) x e in
+        ((n, omega arith, q, omega arith), below-suc (λ j. p j ≡ true → min (f n) x ≤ f j) n (λ j h r. omega (arith, s .1 j h r)) (λ r. omega arith))
+    both x q s (inr e) =
+        let l = leb-false (f n) x e in (
+          (s .0 .0, omega (arith, s .0 .1), s .0 .2, omega (arith, s .0 .3)),
+          below-suc (λ j. p j ≡ true → min (f n) x ≤ f j) n (λ j h r. omega (arith, s .1 j h r)) (λ r. omega arith),
+        )
 
--- the limit is finite
-abbrev pub IsFinite : Limit → Type 0
-IsFinite infinite = ⊥
-IsFinite (finite x) = Unit {0}
-
-smaller-finite : (x : ℕ) (l : Limit) → IsFinite (smaller x l)
-smaller-finite x infinite = tt
-smaller-finite x (finite y) = tt
-
--- where one passes, the smallest is finite
-pub smallest-finite : (p : ℕ → Bool) (f : ℕ → ℕ) (n i : ℕ) → i < n → p i ≡ true → IsFinite (smallest p f n)
-unfolding smallest
-smallest-finite p f zero i h e = absurd (not-suc-le-zero h)
-smallest-finite p f (suc n) i h e = go (p n) refl (λ h′. smallest-finite p f n i h′ e)
-  where
-    go : (b : Bool) → p n ≡ b → (i < n → IsFinite (smallest p f n)) → IsFinite (cond b (smaller (f n) (smallest p f n)) (smallest p f n))
-    go true q r = smaller-finite (f n) (smallest p f n)
-    go false q r = r (lt-of-le-of-ne (le-of-suc-le-suc h) (λ d. true≢false (sym e ∙ ap p d ∙ q)))
+    go : (b : Bool) → p n ≡ b → (l : Limit) → Smallest p f n l → Smallest p f (suc n) (cond b (smaller (f n) l) l)
+    go false q infinite s = below-suc (λ j. p j ≡ true → ⊥) n s (λ e. clash e q)
+    go false q (finite x) s = ((s .0 .0, omega (arith, s .0 .1), s .0 .2, s .0 .3), below-suc (λ j. p j ≡ true → x ≤ f j) n (s .1) (λ e. clash e q))
+    go true q infinite s = ((n, omega arith, q, refl), below-suc (λ j. p j ≡ true → f n ≤ f j) n (λ j h e. absurd (s j h e)) (λ e. omega arith))
+    go true q (finite x) s = both x q s (cases (leb (f n) x))
 
 -- a limit of numbers up to b is at most b
 abbrev pub LimitUpTo : ℕ → Limit → Type 0
@@ -241,14 +230,6 @@ module _ {A : Type 0} where
   getD-same (suc n) (suc k) a = getD-same n k a
 
 -- ---- numbers below a bound
-
--- what holds below n, and at n, holds below n + 1
-pub below-suc : (P : ℕ → Type 0) (n : ℕ) → ((j : ℕ) → j < n → P j) → P n → (j : ℕ) → j < suc n → P j
-below-suc P n f x j h = go (ℕ-discrete j n)
-  where
-    go : Dec (j ≡ n) → P j
-    go (yes e) = subst P (sym e) x
-    go (no d) = f j (lt-of-le-of-ne (le-of-suc-le-suc h) d)
 
 module _ (p : ℕ → Bool) where
   -- all below n pass

@@ -17,6 +17,13 @@ pub mod Progress
 pub mod Whole
 pub mod Soundness
 pub mod Following
+pub mod Scenarios
+pub mod Definite
+pub mod SingleEdge
+pub mod Chain
+pub mod Clockwork
+pub mod FirstLate
+pub mod Certain
 pub mod Unrested
 pub mod Example
 pub mod Sorted

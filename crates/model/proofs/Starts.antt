@@ -17,7 +17,7 @@ use Rattle.model.specs.States.{Range, empty, range, isRange, earliest, l
 use Rattle.model.specs.Edges.{orZero, isBelow, lastBelow, candidate, possiblyReady, certainlyReady, earliestStart, workConservingBound, restedWith, certainlyReadyBeside, higherPriorityBound, eligible, latestStart, earliestFinish, latestFinish, availability, successor}
 use Rattle.model.specs.Guarantee.{Admissible}
 use Rattle.model.proofs.Booleans.{cases, and-left, and-right, and-both, ind-le}
-use Rattle.model.proofs.Folds.{every-in, every-out, largest-le, le-largest, Attained, smallest-attained, IsFinite, smallest-finite, count-mono}
+use Rattle.model.proofs.Folds.{every-in, every-out, largest-le, le-largest, Smallest, smallest-is, count-mono}
 use Rattle.model.proofs.Availability.{countUpTo, Weighs, weighs, weighs-one, weighs-none, availability-from, availability-before, count-first}
 use Rattle.model.proofs.Enclosure.{Wider, Encloses, Shaped}
 use Rattle.model.proofs.Induction.{finishRange}
@@ -33,7 +33,7 @@ Fits (range e f) unstarted = ⊥
 Fits (range e f) (ran start x) = (e ≤ x) × (x ≤ f)
 
 -- a range fits the entry of a started job only
-fits-started : (a : Range) (x : Entry) → Fits a x → isRange a ≡ hasStarted x
+pub fits-started : (a : Range) (x : Entry) → Fits a x → isRange a ≡ hasStarted x
 fits-started empty unstarted h = refl
 fits-started empty (ran start x) h = absurd h
 fits-started (range e f) unstarted h = absurd h
@@ -84,7 +84,7 @@ abbrev pub Candidate : List Job → State → ℕ → Type 0
 Candidate js σ i = (started σ i ≡ false) × ((w : ℕ) → member w (predecessors js i) ≡ true → started σ w ≡ true)
 
 -- the test of a candidate passes where these hold
-candidate-in : (js : List Job) (σ : State) (i : ℕ) → Candidate js σ i → candidate js σ i ≡ true
+pub candidate-in : (js : List Job) (σ : State) (i : ℕ) → Candidate js σ i → candidate js σ i ≡ true
 unfolding candidate
 candidate-in js σ i c = and-both (not (started σ i)) (every (started σ) (predecessors js i)) (ap not (c .0)) (every-in (started σ) (predecessors js i) (c .1))
 
@@ -97,7 +97,7 @@ candidate-out js σ i e = (
 )
 
 -- what has rested with i is one of i's predecessors, for which i asks no less than j
-rested-with : (js : List Job) (i j w : ℕ) → restedWith js i j w ≡ true → (member w (predecessors js i) ≡ true) × (restOf js j w ≤ restOf js i w)
+pub rested-with : (js : List Job) (i j w : ℕ) → restedWith js i j w ≡ true → (member w (predecessors js i) ≡ true) × (restOf js j w ≤ restOf js i w)
 unfolding restedWith
 rested-with js i j w e = (
   and-left (member w (predecessors js i)) (leb (restOf js j w) (restOf js i w)) e,
@@ -119,12 +119,12 @@ module _ (js : List Job) (m : ℕ) (s : Scenario) (admissible : Admissible js s)
   not-past-bound : 1 ≤ m → Shaped m (length js) σ → (i : ℕ) → i < length js → candidate js σ i ≡ true → (p : ℕ) → Idle js m s p h → workConservingBound js σ < p → ⊥
   unfolding workConservingBound certainlyReady
   not-past-bound cores shaped i b c p idle l =
-      go (smallest (candidate js σ) (certainlyReady js σ) (length js)) (smallest-finite (candidate js σ) (certainlyReady js σ) (length js) i b c)
-      (smallest-attained (candidate js σ) (certainlyReady js σ) (length js)) l
+      go (smallest (candidate js σ) (certainlyReady js σ) (length js)) (smallest-is (candidate js σ) (certainlyReady js σ) (length js)) l
     where
-      go : (x : Limit) → IsFinite x → Attained (candidate js σ) (certainlyReady js σ) (length js) x → max (first (σ .certainlyFree)) (orZero x) < p → ⊥
-      go infinite fin a l = fin
-      go (finite x) fin a l =
+      go : (x : Limit) → Smallest (candidate js σ) (certainlyReady js σ) (length js) x → max (first (σ .certainlyFree)) (orZero x) < p → ⊥
+      go infinite none l = none i b c
+      go (finite x) least l =
+          let a = least .0 in
           let u : ℕ = max (first (σ .certainlyFree)) x in
           let free : 1 ≤ countUpTo u (σ .certainlyFree) = omega (arith, count-first u m (σ .certainlyFree) cores (shaped .certainly), weighs-one (first (σ .certainlyFree)) u (omega arith)) in
           let ready = candidate-ready (a .0) u (a .1) (a .2) (omega (arith, a .3))
@@ -165,7 +165,7 @@ module _ (js : List Job) (m : ℕ) (s : Scenario) (admissible : Admissible js s)
 
     below-higher : Below t (higherPriorityBound js σ i)
     unfolding higherPriorityBound certainlyReadyBeside
-    below-higher = go (smallest higher (certainlyReadyBeside js σ i) (length js)) (smallest-attained higher (certainlyReadyBeside js σ i) (length js))
+    below-higher = go (smallest higher (certainlyReadyBeside js σ i) (length js)) (smallest-is higher (certainlyReadyBeside js σ i) (length js))
       where
         -- a predecessor of job j has rested: it has rested with i, or its latest finish time counts in the bound, with the rest
         served : (y j : ℕ) → y ≤ t → certainlyReadyBeside js σ i j ≤ y → (w : ℕ) → member w (predecessors js j) ≡ true → started σ w ≡ true
@@ -176,12 +176,13 @@ module _ (js : List Job) (m : ℕ) (s : Scenario) (admissible : Admissible js s)
             (omega (arith, le-largest (λ v. not (restedWith js i j v)) (λ v. latest (finishOf σ v) + restOf js j v) (predecessors js j) w q (ap not d))))
             (cases (restedWith js i j w))
 
-        go : (x : Limit) → Attained higher (certainlyReadyBeside js σ i) (length js) x → Below t x
-        go infinite a = tt
-        go (finite y) a =
+        go : (x : Limit) → Smallest higher (certainlyReadyBeside js σ i) (length js) x → Below t x
+        go infinite none = tt
+        go (finite y) least =
+            let a = least .0 in
             ⊎-elim
             (λ e. absurd (firstly (a .0) (a .1)
-            (candidate-ready (a .0) t (a .1) (and-left (candidate js σ (a .0)) (before js (a .0) i) (a .2)) (omega (arith, leb-true y t e, a .3)) (served y (a .0) (leb-true y t e) (a .3))) (and-right (candidate js σ (a .0)) (before js (a .0) i) (a .2))))
+            (candidate-ready (a .0) t (a .1) (and-left (candidate js σ (a .0)) (before js (a .0) i) (a .2)) (omega (arith, leb-true y t e, a .3)) (served y (a .0) (leb-true y t e) (omega (arith, a .3)))) (and-right (candidate js σ (a .0)) (before js (a .0) i) (a .2))))
             (λ e. leb-false y t e) (cases (leb y t))
 
     -- the job that starts is eligible in the covering state
