@@ -8,6 +8,7 @@ ghost use Rattle.rows.specs.PhraseTable.{phraseTable, phraseOf};
 ghost use Rattle.rows.specs.internal.Handed.{HandedOn};
 ghost use Rattle.jobs.specs.internal.JobRow.{jobsOfRows, Setting};
 ghost use Rattle.checking.specs.Checking.{verdict, levelWords, TableKept, checkedOf, answerFor, valuesOf, RunsKept};
+ghost use Rattle.checking.specs.Certain.{ResultByRun};
 ghost use Rattle.checker.specs.internal.Analysed.{analysedOf};
 use analysis::levels::Analysed;
 use analysis::levels::analyse;
@@ -71,13 +72,15 @@ pub fn check_phrase(file: &[u8], phrase: &mut [u32; PHRASE_WORDS], table: &mut [
     }
 }
 
-// Checks a phrase file over a lent table. An accepted result keeps its promise in every run of the phrase.
+// Checks a phrase file over a lent table. An accepted result keeps its promise in every run of the phrase; where nothing of the phrase is uncertain, the
+// result says what its one run does.
 pub fn check(file: &[u8], table: &mut [u32]) -> Checked
     ensures answer { λ r. ⌜ r ≡ checkedOf (reading (now (file .entry))) (length (now (table .entry))) ⌝ }
     ensures number { λ r. ⌜ valuesOf (r .answer)
         ≡ valuesOf (answerFor (verdict (reading (now (file .entry))) (length (now (table .entry))))) ⌝ }
     ensures table { λ _. ⌜ TableKept (reading (now (file .entry))) (now (table .entry)) (now (table .exit)) ⌝ }
     ensures runs { λ r. ⌜ RunsKept (reading (now (file .entry))) r ⌝ }
+    ensures certain { λ r. ⌜ ResultByRun (reading (now (file .entry))) (length (now (table .entry))) r ⌝ }
 {
     let mut phrase = [0u32; PHRASE_WORDS];
     check_phrase(file, &mut phrase, table)

@@ -3,4 +3,5 @@ pub mod PerJob
 pub mod Accepted
 pub mod Bounds
 pub mod Promise
+pub mod Certain
 pub mod Refusals

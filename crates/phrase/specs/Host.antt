@@ -1,10 +1,12 @@
 -- What a host gets: one number for a check, for a reading, for a writing and for a playing. Assumes nothing.
 use Prim.Native.Nat.{ℕ, _+_, _*_}
+use mathlib.Core.Path.{_≡_}
 use mathlib.Core.List.{List}
 use lib.ListN.{length}
 use Rattle.format.specs.Phrase.{Phrase}
 use Rattle.format.specs.Outcome.{Outcome, ok, refused}
 use Rattle.checking.specs.Checking.{verdict, answerFor, Values, valuesOf}
+use Rattle.checking.specs.Certain.{verdictOnRun, RunDecides}
 
 -- the words of a table of its own
 abbrev pub tableWords : ℕ
@@ -25,6 +27,10 @@ numberOf w = refusalAt (w .number) (w .place)
 -- the number for a reading and a table of so many words
 abbrev pub numberFor : Outcome Phrase → ℕ → ℕ
 numberFor o words = numberOf (valuesOf (answerFor (verdict o words)))
+
+-- Over a table of so many words the run of a phrase with nothing uncertain decides the analysis, and the number is that of the verdict on the run.
+abbrev pub NumberByRun : Outcome Phrase → ℕ → ℕ → Type 0
+NumberByRun o words r = RunDecides o words × (r ≡ numberOf (valuesOf (answerFor (verdictOnRun o))))
 
 -- Of a reading and of a playing: 0, or its refusal.
 abbrev pub outcomeNumber : {A : Type 0} → Outcome A → ℕ

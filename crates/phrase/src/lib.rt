@@ -7,8 +7,9 @@ ghost use Prim.Native.Nat.{_<_};
 ghost use lib.ListN.{length};
 ghost use Rattle.format.specs.Reading.{reading};
 ghost use Rattle.checking.specs.Checking.{verdict, TableKept, valuesOf, Playable};
+ghost use Rattle.checking.specs.Certain.{IsCertain, HasRoom};
 ghost use Rattle.report.specs.Report.{textOf, delivered, lengthIn};
-ghost use Rattle.phrase.specs.Host.{tableWords, places, refusalAt, numberOf, numberFor};
+ghost use Rattle.phrase.specs.Host.{tableWords, places, refusalAt, numberOf, numberFor, NumberByRun};
 use checker::check;
 use checking::Answer;
 use model::refusals::LATE_JOB;
@@ -46,6 +47,8 @@ pub extern "C" fn phrase_check_with(file: &[u8], table: &mut [u32]) -> u64
     ensures table { λ _. ⌜ TableKept (reading (now (file .entry))) (now (table .entry)) (now (table .exit)) ⌝ }
     ensures runs { λ r. ⌜ (r ≡ 0 → Playable (reading (now (file .entry)))
         (verdict (reading (now (file .entry))) (length (now (table .entry))))) ⌝ }
+    ensures certain { λ r. ⌜ (IsCertain (reading (now (file .entry))) → HasRoom (reading (now (file .entry))) (length (now (table .entry)))
+        → NumberByRun (reading (now (file .entry))) (length (now (table .entry))) r) ⌝ }
 {
     let checked = check(file, table);
     let answer = checked.answer;
@@ -57,6 +60,7 @@ pub extern "C" fn phrase_check_with(file: &[u8], table: &mut [u32]) -> u64
 pub extern "C" fn phrase_check(file: &[u8]) -> u64
     ensures number { λ r. ⌜ r ≡ numberFor (reading (now (file .entry))) tableWords ⌝ }
     ensures runs { λ r. ⌜ (r ≡ 0 → Playable (reading (now (file .entry))) (verdict (reading (now (file .entry))) tableWords)) ⌝ }
+    ensures certain { λ r. ⌜ (IsCertain (reading (now (file .entry))) → NumberByRun (reading (now (file .entry))) tableWords r) ⌝ }
 {
     let mut table = [0u32; TABLE_WORDS];
     phrase_check_with(file, &mut table)

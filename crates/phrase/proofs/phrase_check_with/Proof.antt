@@ -4,7 +4,10 @@ use native.Mathlib.Omega.{arith}
 use lib.ListN.{length}
 use denote.Ref.{now}
 use Rattle.format.specs.Bytes.{AreBytes}
+use Rattle.model.specs.Exploration.{Verdict}
+use Rattle.checking.specs.Checking.{answerFor, valuesOf}
 use Rattle.checking.proofs.Promise.{playable}
+use Rattle.checking.proofs.Certain.{run-decides}
 use Rattle.phrase.specs.Host.{numberOf}
 use Rattle.phrase.proofs.Numbers.{place-apart, zero-accepts}
 use borrow.Author.Needs.{needs}
@@ -31,8 +34,16 @@ returns c =
     let file = now (known .before .args .file) in
     let words = length (now (known .before .args .table)) in
     let done = c .before .before .before .check .ensures in
-    let number = c .number .ensures ∙ ap numberOf (done .1 .0) in
-    (number, (done .1 .1 .0, λ z. playable file (bytes known) words (zero-accepts file (bytes known) words (sym number ∙ z))))
+    let number = c .number .ensures ∙ ap numberOf (done .1 .0) in (
+      number,
+      (
+        done .1 .1 .0,
+        (
+          λ z. playable file (bytes known) words (zero-accepts file (bytes known) words (sym number ∙ z)),
+          λ certain room. let d = run-decides file (bytes known) words certain room in (d .0, number ∙ ap (λ (v : Verdict). numberOf (valuesOf (answerFor v))) (d .1)),
+        ),
+      ),
+    )
 
 pub phrase-check-with-spec : {M : Type 1} → statement M
 phrase-check-with-spec = tie.close (tie.spec check-requires number-requires same-length returns)
