@@ -1,5 +1,5 @@
 //! The second checker of carillon phrases, and a second writer and player of them, made from the documents alone: document
-//! 01, of document 02 requests #101 to #106, and for #103 the paper, source document 004.
+//! 01, of document 02 requests #101 to #107, and for #103 the paper, source document 004.
 
 pub mod check;
 pub mod dispatch;

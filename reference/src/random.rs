@@ -1,7 +1,8 @@
-//! Random phrase files from a seed: valid ones of many shapes, ones with calls at 0, damaged ones, and large ones; random
-//! phrases to write; and random playings. All of them but those with calls at 0 and the widest are there of versions 1, 2
-//! and 3.
+//! Random phrase files from a seed: valid ones of many shapes, ones with calls at 0, damaged ones, large ones, and ones with
+//! nothing uncertain in their strokes; random phrases to write; and random playings. All of them but those with calls at 0 and
+//! the widest are there of versions 1, 2 and 3.
 
+mod certain;
 mod damaged;
 mod edited;
 mod generator;
@@ -22,6 +23,7 @@ use crate::dispatch::Scenario;
 use crate::draft::Draft;
 use crate::reading::{self, Phrase};
 use crate::walk;
+use certain::certain;
 use edited::edited;
 use played::played;
 
@@ -37,6 +39,8 @@ pub const CASES_PER_AT_ZERO: u64 = 4;
 pub const CASES_PER_SHIFTED: u64 = 4;
 /// And one of version 3.
 pub const CASES_PER_RESTED: u64 = 2;
+/// `tests/certain.rs` and `tests/compare_certain.rs` take so many with nothing uncertain, and themselves see to what these cover.
+pub const CERTAIN_CASES: u64 = 5_000;
 
 /// A phrase file and the length of a table to lend for it.
 #[derive(Clone, Debug)]
@@ -147,6 +151,29 @@ pub fn shifted_played_case(seed: u64, number: u64) -> PlayedCase {
 /// A phrase file of version 3 and a playing, by number like the others.
 pub fn rested_played_case(seed: u64, number: u64) -> PlayedCase {
     played(&mut of_rested_case(seed, number), VERSION_3)
+}
+
+/// Phrases with nothing uncertain have streams of their own.
+fn certain_seed(seed: u64) -> u64 {
+    seed ^ (1 << 34)
+}
+
+/// A phrase file with nothing uncertain in its strokes, by number like the others.
+pub fn certain_case(seed: u64, number: u64) -> Vec<u8> {
+    let mut random = Generator::of_case(certain_seed(seed), number);
+    certain(&mut random, VERSION_1)
+}
+
+/// The same of version 2, by number like the others.
+pub fn shifted_certain_case(seed: u64, number: u64) -> Vec<u8> {
+    let mut random = of_shifted_case(certain_seed(seed), number);
+    certain(&mut random, VERSION_2)
+}
+
+/// The same of version 3, by number like the others.
+pub fn rested_certain_case(seed: u64, number: u64) -> Vec<u8> {
+    let mut random = of_rested_case(certain_seed(seed), number);
+    certain(&mut random, VERSION_3)
 }
 
 /// A case with levels of thousands of states, by number like the others.

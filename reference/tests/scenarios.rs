@@ -9,7 +9,7 @@ use reference::dispatch::{
 };
 use reference::draft::Draft;
 use reference::examples::*;
-use reference::random::{self, Case, Generator, Shape, TINY};
+use reference::random::{self, Case, Generator, TINY};
 use reference::range::Range;
 use reference::reading::{Phrase, read};
 
@@ -196,46 +196,6 @@ fn shifted_phrases_keep_demand_3_in_random_scenarios() {
 fn rested_phrases_keep_demand_3_in_random_scenarios() {
     let cases = setting("SCENARIO_CASES", 6_000).div_ceil(2);
     assert_random_scenarios(cases, random::rested_case);
-}
-
-#[test]
-fn with_nothing_uncertain_the_walk_is_the_one_run() {
-    let shape = Shape {
-        strokes: (0, 40),
-        drivers: (1, 8),
-        bells: (1, 20),
-        ranks: 6,
-        hold: (1, 12),
-        hold_spread: 0,
-        gap: (0, 6),
-        call_spread: 0,
-        waiting: 30,
-    };
-    let mut random = Generator::new(9);
-    let mut late = 0;
-    for number in 0..2_000 {
-        let mut draft = random::draft(&mut random, &shape);
-        if number % 2 == 1 {
-            draft = draft.rested(|| random.below(20) as u16);
-        }
-        let phrase = read(&random::tuned(&mut random, draft).bytes()).unwrap();
-        let scenario = all_scenarios(&phrase).next().unwrap();
-        let (starts, state) = play(&phrase, &scenario, 3_000);
-        assert!(state.strokes.iter().all(|&status| status == Status::Done));
-        let check = check_phrase(&phrase, HOST_WORDS);
-        let in_time = starts.iter().all(|s| s.end <= phrase.strokes[s.stroke].due);
-        assert_eq!(check.is_accepted(), in_time);
-        if in_time {
-            assert_eq!(check.states as usize, phrase.strokes.len() + 1);
-            for start in starts {
-                assert_eq!(check.ends[start.stroke], Range::new(start.end, start.end));
-            }
-        } else {
-            late += 1;
-            assert!(matches!(check.answer, Answer::Late { .. }));
-        }
-    }
-    assert!(late > 500);
 }
 
 #[test]
