@@ -26,6 +26,7 @@ pub mod FirstLate
 pub mod Certain
 pub mod Unrested
 pub mod Example
+pub mod CertainExample
 pub mod Sorted
 pub mod Bounds
 pub mod Eligibility

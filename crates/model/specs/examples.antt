@@ -7,3 +7,4 @@ pub mod Rests
 pub mod Runs
 pub mod Instances
 pub mod Playings
+pub mod Clockworks

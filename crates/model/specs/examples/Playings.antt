@@ -1,10 +1,11 @@
 -- Starts, finish times and horizons of whole runs, worked out by hand, in one table with one result; what they are made of; and what `Played` says.
 -- Assumes nothing.
-use Prim.Native.Nat.{ℕ, zero, suc, _+_, _≤_, _<_}
+use Prim.Native.Nat.{ℕ, _+_, _≤_, _<_}
 use mathlib.Core.Path.{_≡_, refl}
-use mathlib.Core.List.{List, [], _∷_, _++_, map}
+use mathlib.Core.List.{List, [], _∷_, map}
 use native.Mathlib.Omega.{arith}
 use lib.ListN.{getD, length}
+use Rattle.words.specs.Tabulate.{tabulate}
 use Rattle.model.specs.Folds.{member, largestBelow}
 use Rattle.model.specs.Jobs.{Job}
 use Rattle.model.specs.Dispatch.{Scenario, Moment, waiting, running, done, status, run}
@@ -30,13 +31,8 @@ abbrev play : (ℕ → Moment → Case) → List ℕ → List ℕ → ℕ → Pl
 play f starts finishes over =
     record { of = f 0 (record { statuses = []; free = 0 }); due = record { starts = starts; finishes = finishes; over = over } }
 
--- f 0, .., f (n - 1)
-abbrev each : (ℕ → ℕ) → ℕ → List ℕ
-each f zero = []
-each f (suc n) = each f n ++ f n ∷ []
-
 abbrev times : List Job → ℕ → Scenario → Times
-times js m s = record { starts = each (startTime js m s) (length js); finishes = each (finishTime js m s) (length js); over = horizon js s }
+times js m s = record { starts = tabulate (startTime js m s) 0 (length js); finishes = tabulate (finishTime js m s) 0 (length js); over = horizon js s }
 
 abbrev pub timesOf : Play → Times
 timesOf p = times (p .of .jobs) (p .of .cores) (scenarioOf (p .of))
@@ -74,7 +70,7 @@ plays =
     ∷ []
 
 pub played : map timesOf plays ≡ map (λ (p : Play). p .due) plays
-unfolding startTime finishTime
+unfolding startTime finishTime tabulate
 played = refl
 
 -- ---- what they are made of
