@@ -13,9 +13,9 @@ use Rattle.model.specs.Guarantee.{WellFormed, Admissible}
 use Rattle.model.specs.Playing.{finishTime}
 use Rattle.model.specs.Certain.{Certain, onlyScenario, runVerdict, Decided}
 use Rattle.model.specs.examples.Marked.{resting}
+use Rattle.model.specs.examples.Instances.{of-two}
 use Rattle.model.proofs.Folds.{not-in-nil}
 use Rattle.model.proofs.Certain.{decided, accepted-exactly, both-ends, told-late, only-times}
-use Rattle.model.proofs.Example.{of-two}
 
 -- two jobs of one bell, which rests for 3; the second is released by rb, executes for cb at the most, and is due at d
 abbrev pub phrase : ℕ → ℕ → ℕ → List Job

@@ -58,7 +58,7 @@ module _ (js : List Job) (m : ℕ) (s : Scenario) where
 pub record Decided (js : List Job) (m cap : ℕ) : Type 0 where
   -- There is one run: every admissible scenario gives it.
   pub oneRun : (s : Scenario) → Admissible js s → (t : ℕ) → run js m s t ≡ run js m (onlyScenario js) t
-  -- Each level that is completed holds one state; so many levels have been counted, so many states.
+  -- Each level that is completed holds one state; so n + 1 states have been counted once level n is.
   pub oneState : (n : ℕ) → n ≤ length js → (l : List State) (seen : List Range) (c : ℕ) → explored js m cap n ≡ going l seen c → (length l ≡ 1) × (c ≡ suc n)
   -- The verdict is that on the one run.
   pub verdict : analysis js m cap ≡ runVerdict js m (onlyScenario js)

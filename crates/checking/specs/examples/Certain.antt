@@ -1,17 +1,18 @@
 -- Files of phrases with nothing uncertain, and of others: the verdict on the one run, and a check's in tables with room for one state, or none, worked out
 -- by hand. Assumes nothing.
-use Prim.Native.Nat.{ℕ, zero, suc, _<_}
-use mathlib.Core.Path.{_≡_, refl}
+use Prim.Native.Nat.{ℕ}
+use mathlib.Core.Path.{_≡_, refl, _∙_}
 use mathlib.Core.List.{List, [], _∷_}
 use native.Mathlib.Omega.{arith}
 use lib.ListN.{set, replicate}
 use Rattle.model.specs.Certain.{runVerdict}
 use Rattle.model.specs.Exploration.{Verdict, accepted, refused, late, analysis}
 use Rattle.model.specs.States.{range}
+use Rattle.model.specs.examples.Instances.{of-two}
 use Rattle.format.specs.Reading.{reading}
 use Rattle.format.specs.examples.Files.{fileP}
 use Rattle.checking.specs.Checking.{verdict, perJob, resultOf, jobsRead}
-use Rattle.checking.specs.Certain.{IsCertain, HasRoom, verdictOnRun, RunDecides}
+use Rattle.checking.specs.Certain.{IsCertain, HasRoom, verdictOnRun, RunDecides, ResultByRun}
 use Rattle.checking.specs.declared.Answer.the-variants.{Accepted}
 use Rattle.checking.specs.declared.Checked.{Checked}
 use Rattle.checking.specs.examples.Checks.{Case, lent, dues, given, versionNine}
@@ -56,9 +57,10 @@ pub as-checked : given verdict certain ≡ dues certain
 unfolding reading analysis
 as-checked = refl
 
--- the whole result: the ends twice, and 0 as the first moment of each call
-pub by-run : resultOf (jobsRead (reading calledAtZero)) (verdictOnRun (reading calledAtZero))
-    ≡ record {
+-- the whole result of the first: each end twice; calls are at 0, so responses are the ends
+abbrev onTheRun : Checked
+onTheRun =
+    record {
       answer = Accepted;
       jobs = 2;
       earliest = 2 ∷ 6 ∷ replicate 62 0;
@@ -67,15 +69,12 @@ pub by-run : resultOf (jobsRead (reading calledAtZero)) (verdictOnRun (reading c
       worst = 2 ∷ 6 ∷ replicate 62 0;
       states = 3;
     }
+
+pub by-run : resultOf (jobsRead (reading calledAtZero)) (verdictOnRun (reading calledAtZero)) ≡ onTheRun
 unfolding reading runVerdict perJob
 by-run = refl
 
 -- ---- what is certain, and what is not
-
-of-two : (P : ℕ → Type 0) → P 0 → P 1 → (i : ℕ) → i < 2 → P i
-of-two P a b zero h = a
-of-two P a b (suc zero) h = b
-of-two P a b (suc (suc i)) h = absurd (omega arith)
 
 pub called-at-zero : IsCertain (reading calledAtZero)
 unfolding reading
@@ -112,6 +111,12 @@ no-room h = omega arith
 pub without-room : verdict (reading calledAtZero) 15 ≡ refused 13 0
 unfolding reading analysis
 without-room = refl
+
+-- ---- what is said of a result
+
+-- with nothing uncertain and room for a state it is the one above
+pub told-by-run : (r : Checked) → ResultByRun (reading calledAtZero) 16 r → r ≡ onTheRun
+told-by-run r x = x called-at-zero room .1 ∙ by-run
 
 -- with room for one state P gets 13, so its run does not decide it
 pub undecided : RunDecides (reading fileP) 31 → ⊥

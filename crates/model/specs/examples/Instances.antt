@@ -66,7 +66,8 @@ of-one : (P : ℕ → Type 0) → P 0 → (i : ℕ) → i < 1 → P i
 of-one P a zero h = a
 of-one P a (suc i) h = absurd (omega arith)
 
-of-two : (P : ℕ → Type 0) → P 0 → P 1 → (i : ℕ) → i < 2 → P i
+-- what holds of 0 and of 1 holds of every number below 2
+pub of-two : (P : ℕ → Type 0) → P 0 → P 1 → (i : ℕ) → i < 2 → P i
 of-two P a b zero h = a
 of-two P a b (suc zero) h = b
 of-two P a b (suc (suc i)) h = absurd (omega arith)

@@ -2,14 +2,17 @@
 use Prim.Native.Nat.{ℕ}
 use mathlib.Core.Path.{_≡_, refl}
 use mathlib.Core.List.{List, [], _∷_, _++_, map}
+use lib.ListN.{set}
+use Rattle.model.specs.Certain.{runVerdict}
 use Rattle.model.specs.Exploration.{analysis}
 use Rattle.format.specs.Reading.{reading}
 use Rattle.format.specs.Outcome.{ok, refused}
 use Rattle.format.specs.examples.Files.{fileP, phraseP}
 use Rattle.checking.specs.examples.Checks.{versionNine, byteRemains, latePhrase, Case, lent, dues, given, values}
+use Rattle.checking.specs.examples.Certain.{calledAtZero}
 use Rattle.playing.specs.Playing.{Times, scenarioFor, playedOf}
 use Rattle.playing.specs.examples.Playings.{playingP, two}
-use Rattle.phrase.specs.Host.{tableWords, places, numberOf, numberFor, outcomeNumber, writtenNumber}
+use Rattle.phrase.specs.Host.{tableWords, places, numberOf, numberFor, NumberByRun, outcomeNumber, writtenNumber}
 
 -- a table of 16,384 words, and two to the 32nd places
 pub sizes : tableWords ∷ places ∷ [] ≡ 16384 ∷ 4294967296 ∷ []
@@ -62,3 +65,12 @@ table =
 pub as-due : given numberFor table ≡ dues table
 unfolding reading analysis
 as-due = refl
+
+-- P with stroke 0 called at 0 only, and stroke 1 due at 5: it ends at 6 in the one run, so 14 with stroke 1; due at 6, accepted
+pub by-the-run : (r : ℕ) → NumberByRun (reading (set calledAtZero 49 0x05)) tableWords r → r ≡ 60129542145
+unfolding reading runVerdict
+by-the-run r x = x .1
+
+pub in-time : (r : ℕ) → NumberByRun (reading calledAtZero) tableWords r → r ≡ 0
+unfolding reading runVerdict
+in-time r x = x .1
