@@ -87,6 +87,8 @@ size_t phrase_report(const uint8_t *file, size_t file_len, uint8_t *text, size_t
  * phrase_check with a lent table of table_len words, which may hold anything.
  * The phrase has m drivers and K strokes: W = 2 + 2 m + 2 K, and S = table_len / (2 W), rounded down, is how many states a level may have. Afterwards the
  * first 2 S W words may hold anything; the others are unchanged. For refusals 1 to 12 and 19 no word changes.
+ * Where nothing of the strokes is uncertain (each is called at one moment, and its bell holds for one time), 2 W words are enough, whatever the phrase: it is
+ * never refused with 13, and accepted exactly when its one run meets every due time. The table of phrase_check is never too short for that.
  */
 uint64_t phrase_check_with(const uint8_t *file, size_t file_len, uint32_t *table, size_t table_len);
 

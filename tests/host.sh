@@ -82,6 +82,7 @@ p=examples/phrase-p.phrase
 etude=examples/etude.phrase
 down=examples/etude-down.phrase
 heavy=examples/etude-heavy.phrase
+clockwork=examples/clockwork.phrase
 : >"$folder/empty"
 { head -c 35 "$p"; printf '\x06'; tail -c +37 "$p"; } >"$folder/late"
 { head -c 7 "$p"; printf '\x0B'; tail -c +9 "$p"; } >"$folder/bell"
@@ -124,6 +125,10 @@ made_of() {
 }
 made_of examples/etude-playing.hex >"$folder/etude-playing"
 same 'examples/etude.playing is made of etude-playing.hex' "$folder/etude-playing" examples/etude.playing
+made_of examples/clockwork-playing.hex >"$folder/clockwork-playing"
+same 'examples/clockwork.playing is made of clockwork-playing.hex' "$folder/clockwork-playing" examples/clockwork.playing
+# Nothing of it is uncertain; with stroke 23 due at 2481 (09B1), a millisecond before its end.
+{ head -c 403 "$clockwork"; printf '\x00\x00\x09\xB1'; } >"$folder/clockwork-late"
 
 # plays HOW STATUS TEXT VERDICT ARGUMENT..: the player, in `player`, ends so. HOW names the way that it is run.
 plays() {
@@ -136,16 +141,23 @@ player_usage='usage: player FILE [WORDS] [--play PLAYING]\n'
 
 # play_all HOW: everything that the player can answer without a playing.
 play_all() {
-  local text_p text_etude text_down text_heavy f=$folder usage=$player_usage words
+  local text_p text_etude text_down text_heavy text_clockwork f=$folder usage=$player_usage words
   text_p=$(cat examples/phrase-p.report)'\n'
   text_etude=$(cat examples/etude.report)'\n'
   text_down=$(cat examples/etude-down.report)'\n'
   text_heavy=$(cat examples/etude-heavy.report)'\n'
+  text_clockwork=$(cat examples/clockwork.report)'\n'
   plays "$1" 0 "$text_p" "player: $p: accepted\n" "$p"
   plays "$1" 0 "$text_etude" "player: examples/etude.phrase: accepted\n" examples/etude.phrase
   plays "$1" 0 "$text_down" "player: $down: accepted\n" "$down"
   plays "$1" 0 "$text_heavy" "player: $heavy: accepted\n" "$heavy"
   plays "$1" 0 "$text_heavy" "player: $heavy: accepted\n" "$heavy" 131072
+  # W is 2 + 6 + 48 = 56, so 112 words have room for one state, which is enough where nothing is uncertain.
+  for words in 112 113 224 16384; do
+    plays "$1" 0 "$text_clockwork" "player: $clockwork: accepted\n" "$clockwork" "$words"
+    plays "$1" 1 'refused 14 stroke 23 ends 2482..2482\n' "player: $f/clockwork-late: refused, number 14, stroke 23\n" "$f/clockwork-late" "$words"
+  done
+  plays "$1" 1 'refused 13 level 0\n' "player: $clockwork: refused, number 13, level 0\n" "$clockwork" 111
   plays "$1" 0 "$text_p" "player: $f/rested: accepted\n" "$f/rested" 32
   plays "$1" 1 'refused 13 level 1\n' "player: $f/rested: refused, number 13, level 1\n" "$f/rested" 31
   plays "$1" 1 'refused 6 at 17\n' "player: $f/rest: refused, number 6, byte 17\n" "$f/rest"
@@ -174,11 +186,12 @@ play_all() {
 
 # play_playings HOW: playings that are worked out, also where the check refuses the phrase, wherever the option stands.
 play_playings() {
-  local f=$folder text_p text_etude text_down text_heavy text_twice late
+  local f=$folder text_p text_etude text_down text_heavy text_clockwork text_twice late
   text_p=$(cat examples/phrase-p.report)'\nstroke 0 start 4 end 6 reported 2..7\nstroke 1 start 0 end 4 reported 4..6\n'
   text_etude=$(cat examples/etude.report)'\n'$(cat examples/etude.played)'\n'
   text_down=$(cat examples/etude-down.report)'\n'$(cat examples/etude.played)'\n'
   text_heavy=$(cat examples/etude-heavy.report)'\n'$(cat examples/etude-heavy.played)'\n'
+  text_clockwork=$(cat examples/clockwork.report)'\n'$(cat examples/clockwork.played)'\n'
   text_twice='stroke 0 key C4 bell 0 ends 2..3 response 2..3 due 3\nstroke 1 key C4 bell 0 ends 4..6 response 4..6 due 6\n'
   text_twice+='accepted strokes 2 states 3 hold 6\nstroke 0 start 0 end 3 reported 2..3\nstroke 1 start 3 end 5 reported 4..6\n'
   late='stroke 0 start 5 end 7\nstroke 1 start 0 end 4\n'
@@ -186,6 +199,9 @@ play_playings() {
   plays "$1" 0 "$text_etude" "player: $etude: accepted\n" --play examples/etude.playing "$etude" 131072
   plays "$1" 0 "$text_down" "player: $down: accepted\n" "$down" --play examples/etude.playing
   plays "$1" 0 "$text_heavy" "player: $heavy: accepted\n" "$heavy" --play examples/etude.playing
+  plays "$1" 0 "$text_clockwork" "player: $clockwork: accepted\n" "$clockwork" 112 --play examples/clockwork.playing
+  plays "$1" 1 "refused 14 stroke 23 ends 2482..2482\n$(cut -d' ' -f1-6 examples/clockwork.played)\n" \
+    "player: $f/clockwork-late: refused, number 14, stroke 23\n" "$f/clockwork-late" 112 --play examples/clockwork.playing
   plays "$1" 0 "$text_p" "player: $f/shifted: accepted\n" "$f/shifted" --play "$f/playing"
   plays "$1" 0 "$text_p" "player: $f/rested: accepted\n" "$f/rested" --play "$f/playing"
   plays "$1" 0 "$text_twice" "player: $f/twice: accepted\n" "$f/twice" --play "$f/playing-twice"

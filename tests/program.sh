@@ -90,7 +90,7 @@ shows() {
 
 # ---- The examples that are kept as files ----
 
-for example in phrase-p etude etude-down etude-heavy; do
+for example in phrase-p etude etude-down etude-heavy clockwork; do
   bytes "$(cat "examples/$example.hex")" >"$folder/in"
   compare "examples/$example.phrase is made of $example.hex" "$folder/in" "examples/$example.phrase"
   prints "examples/$example.phrase" "examples/$example.phrase" "examples/$example.report"
