@@ -10,9 +10,8 @@ use native.Mathlib.Omega.{arith}
 use lib.Dec.{leb, ltb}
 use lib.ListN.{getD, length, set}
 use borrow.Author.Tests.{le-ltb, lt-ltb, ltb-true, ltb-false, leb-true, leb-false}
-use Rattle.words.specs.Tabulate.{tabulate}
 use Rattle.words.proofs.Tabulate.{getD-tabulate, tabulate-is}
-use Rattle.model.specs.Jobs.{Job, job, before}
+use Rattle.model.specs.Jobs.{Job, job}
 use Rattle.model.specs.Dispatch.{Scenario, Moment, status}
 use Rattle.model.specs.States.{Range, empty, range, isRange, State, finishOf}
 use Rattle.model.specs.Edges.{earliestFinish, latestFinish, successor}
@@ -27,7 +26,7 @@ use Rattle.model.proofs.Coverage.{kept-from}
 use Rattle.model.proofs.Whole.{played, times-unique}
 use Rattle.model.proofs.Scenarios.{one-run, only-admissible}
 use Rattle.model.proofs.SingleEdge.{try-one, add-timely, add-late}
-use Rattle.model.proofs.Chain.{chain as chainOf, next as nextOf, moment, chain-shaped, link as linkOf, Link, moments-grow, in-order}
+use Rattle.model.proofs.Chain.{chain as chainOf, next as nextOf, chain-shaped, link as linkOf, Link, moments-grow, in-order}
 use Rattle.model.proofs.Clockwork.{told, each-next, ends, starts-at}
 use Rattle.model.proofs.FirstLate.{NotBefore, FirstLate, first-late, first-late-is}
 

@@ -12,7 +12,7 @@ use lib.ListN.{length}
 use lib.Seq.{getD-set-same, getD-set-other}
 use borrow.Author.Tests.{leb-true, leb-false}
 use Rattle.model.specs.Folds.{ind, member, all}
-use Rattle.model.specs.Jobs.{Job, job, predecessors, restOf, before}
+use Rattle.model.specs.Jobs.{Job, predecessors, restOf, before}
 use Rattle.model.specs.States.{empty, isRange, latest, State, finishOf, started, level, initial, first}
 use Rattle.model.specs.Edges.{candidate, certainlyReady, eligible, earliestStart, workConservingBound, latestFinish, availability, successor}
 use Rattle.model.specs.Guarantee.{WellFormed}

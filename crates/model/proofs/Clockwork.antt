@@ -1,15 +1,15 @@
 -- The run of jobs with nothing uncertain follows the chain of states: each job of the chain starts at its moment, and the last state tells when each
 -- finishes. Assumes nothing.
-use Prim.Native.Nat.{ℕ, suc, _+_, _≤_, _<_}
+use Prim.Native.Nat.{ℕ, _+_, _<_}
 use mathlib.Core.Path.{_≡_, refl, sym, ap, ap₂, _∙_, subst}
 use mathlib.Core.Bool.{true}
 use mathlib.Core.List.{List}
 use native.Mathlib.Omega.{arith}
 use lib.ListN.{length, set}
 use Rattle.model.specs.Folds.{count}
-use Rattle.model.specs.Jobs.{Job, job}
+use Rattle.model.specs.Jobs.{Job}
 use Rattle.model.specs.Dispatch.{Scenario}
-use Rattle.model.specs.States.{Range, empty, range, isRange, earliest, latest, State, finishOf, started}
+use Rattle.model.specs.States.{Range, empty, range, isRange, earliest, latest, State, finishOf}
 use Rattle.model.specs.Edges.{eligible, earliestFinish, latestFinish, successor}
 use Rattle.model.specs.Guarantee.{WellFormed}
 use Rattle.model.specs.Playing.{horizon, startTime, finishTime, Played}
@@ -17,7 +17,7 @@ use Rattle.model.specs.Certain.{Certain, onlyScenario}
 use Rattle.model.proofs.Folds.{count-none, count-all}
 use Rattle.model.proofs.Induction.{finishRange}
 use Rattle.model.proofs.History.{Entry, unstarted, ran, entry, hasStarted}
-use Rattle.model.proofs.Run.{none-started, Start, Lasting, At, run-after}
+use Rattle.model.proofs.Run.{Start, Lasting, At, run-after}
 use Rattle.model.proofs.Starts.{Fits, Covers, start-eligible, covers-start}
 use Rattle.model.proofs.Covering.{covers-initial, covers-later, one-more, some-left}
 use Rattle.model.proofs.Whole.{played, entry-is, has-started}

@@ -12,7 +12,7 @@ use lib.Dec.{leb}
 use lib.ListN.{length}
 use borrow.Author.Tests.{leb-true, leb-false, le-leb, ltb-true, lt-ltb}
 use Rattle.model.specs.Folds.{member, largest, all, Limit, infinite, finite, smallest}
-use Rattle.model.specs.Jobs.{Job, job, predecessors, restOf, before}
+use Rattle.model.specs.Jobs.{Job, predecessors, restOf, before}
 use Rattle.model.specs.Dispatch.{firstOf}
 use Rattle.model.specs.States.{empty, earliest, latest, State, finishOf, first}
 use Rattle.model.specs.Edges.{orZero, isBelow, lastBelow, candidate, possiblyReady, certainlyReady, earliestStart, workConservingBound, restedWith, certainlyReadyBeside, higherPriorityBound, eligible, latestStart, earliestFinish, latestFinish, availability, successor}
