@@ -1,8 +1,8 @@
 /*
  * The phrase check, a phrase read and written, and a playing worked out, for hosts in C and C++.
  *
- * A phrase file comes in; a verdict, and a text with bounds for each stroke, go out. For editors, a file is read into a struct phrase, a struct phrase is
- * written as a file, and one playing of a phrase is worked out. docs/FORMAT.md describes the file and its refusals.
+ * A phrase file comes in; a verdict, and a text with bounds for each stroke and totals for each bell, go out. For editors, a file is read into a struct
+ * phrase, a struct phrase is written as a file, and one playing of a phrase is worked out. docs/FORMAT.md describes the file and its refusals.
  *
  *     rt staticlib phrase                                       proves the library and writes target/staticlib/libphrase.a, for x86-64 Linux only
  *     gcc -I host your.c target/staticlib/libphrase.a -o your   links it
@@ -17,7 +17,7 @@
  * - There is no state between calls and none is shared, so calls may run at the same time, on different tables, texts, phrases, starts, ends and files to
  *   be written.
  * - A stack of 128 KiB suffices. Measured by tests/host/stack.c, as the part of a painted stack that the call changed, and no more for any phrase that was
- *   tried: phrase_check takes 87 KiB, phrase_report 88, with a lent table 23 and 24, phrase_play 10, phrase_read and phrase_write less than 1. A program that
+ *   tried: phrase_check takes 87 KiB, phrase_report 89, with a lent table 23 and 25, phrase_play 10, phrase_read and phrase_write less than 1. A program that
  *   binds memcpy and memset only when they are first called (-Wl,-z,lazy) needs up to 4 KiB more in that call.
  */
 #ifndef PHRASE_H
@@ -37,7 +37,7 @@ extern "C" {
 /* Words in the table of phrase_check and phrase_report, and in the one that the program phrasecheck lends. */
 #define PHRASE_TABLE_WORDS 16384
 
-/* A text buffer of so many bytes always suffices: no text, whatever the table, is longer than 5,554 bytes. */
+/* A text buffer of so many bytes always suffices: no text, whatever the table, is longer than 7,346 bytes. */
 #define PHRASE_TEXT_BYTES 32768
 
 /*
@@ -78,7 +78,8 @@ uint64_t phrase_check(const uint8_t *file, size_t file_len);
 
 /*
  * Checks a file and writes the text of its report, with such a table of its own.
- * Gives the text's length, with no zero byte after it. A refused phrase has a text too, of one line.
+ * Gives the text's length, with no zero byte after it: a line for each stroke, one for each bell with any stroke, and a last one. A refused phrase has a text
+ * too, of one line.
  * 0 only when the text is longer than text_len; then text is untouched. Otherwise the bytes past the text are untouched.
  */
 size_t phrase_report(const uint8_t *file, size_t file_len, uint8_t *text, size_t text_len);

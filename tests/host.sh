@@ -193,7 +193,7 @@ play_playings() {
   text_heavy=$(cat examples/etude-heavy.report)'\n'$(cat examples/etude-heavy.played)'\n'
   text_clockwork=$(cat examples/clockwork.report)'\n'$(cat examples/clockwork.played)'\n'
   text_twice='stroke 0 key C4 bell 0 ends 2..3 response 2..3 due 3\nstroke 1 key C4 bell 0 ends 4..6 response 4..6 due 6\n'
-  text_twice+='accepted strokes 2 states 3 hold 6\nstroke 0 start 0 end 3 reported 2..3\nstroke 1 start 3 end 5 reported 4..6\n'
+  text_twice+='bell 0 strokes 2 hold 6\naccepted strokes 2 states 3 hold 6\nstroke 0 start 0 end 3 reported 2..3\nstroke 1 start 3 end 5 reported 4..6\n'
   late='stroke 0 start 5 end 7\nstroke 1 start 0 end 4\n'
   plays "$1" 0 "$text_etude" "player: $etude: accepted\n" "$etude" --play examples/etude.playing
   plays "$1" 0 "$text_etude" "player: $etude: accepted\n" --play examples/etude.playing "$etude" 131072

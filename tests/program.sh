@@ -1,7 +1,7 @@
 #!/usr/bin/env bash
 # Runs the program phrasecheck on every example of document 01 that it can show, on those of version 2 (request 104) and version 3 (request 106), on examples/
-# and at the limits of its table and its input, and compares what it prints byte by byte. PHRASECHECK names another program than target/bin/phrasecheck, which
-# `rt check phrasecheck` builds.
+# and at the limits of its table and its input, and compares what it prints byte by byte, with the bells' lines (request 108). PHRASECHECK names another program
+# than target/bin/phrasecheck, which `rt check phrasecheck` builds.
 set -euo pipefail
 cd "$(dirname "$0")/.."
 program=${PHRASECHECK:-target/bin/phrasecheck}
@@ -103,6 +103,7 @@ P='01 0000002D 01 02 3C0000020002 01 3E0C00040004 02 02 0D 3C 00000000 00000005 
 shows 'P' "$P" \
   'stroke 0 key C4 bell 0 ends 2..7 response 2..7 due 7' \
   'stroke 1 key D5 bell 1 ends 4..6 response 4..6 due 6' \
+  'bell 0 strokes 1 hold 2' 'bell 1 strokes 1 hold 4' \
   'accepted strokes 2 states 4 hold 6'
 shows 'row 1' '09' 'refused 1 at 0'
 shows 'row 2' '01 00 00' 'refused 2 at 0'
@@ -142,6 +143,7 @@ S='02 0000002E 01 FC 02 3C0000020002 01 3E0C00040004 02 02 0D 40 00000000 000000
 shows 'P shifted' "$S" \
   'stroke 0 key C4 bell 0 ends 2..7 response 2..7 due 7' \
   'stroke 1 key D5 bell 1 ends 4..6 response 4..6 due 6' \
+  'bell 0 strokes 1 hold 2' 'bell 1 strokes 1 hold 4' \
   'accepted strokes 2 states 4 hold 6'
 shows 'version 0' "$(with "$P" 0 00)" 'refused 1 at 0'
 shows 'version 4' "$(with "$S" 0 04)" 'refused 1 at 0'
@@ -179,6 +181,7 @@ R='03 00000032 01 FC 02 3C0000020002 0007 01 3E0C00040004 1388 02 02 0D 40 00000
 shows 'P rested' "$R" \
   'stroke 0 key C4 bell 0 ends 2..7 response 2..7 due 7' \
   'stroke 1 key D5 bell 1 ends 4..6 response 4..6 due 6' \
+  'bell 0 strokes 1 hold 2' 'bell 1 strokes 1 hold 4' \
   'accepted strokes 2 states 4 hold 6'
 shows 'P rested as version 4' "$(with "$R" 0 04)" 'refused 1 at 0'
 shows 'P rested as version 0' "$(with "$R" 0 00)" 'refused 1 at 0'
@@ -235,7 +238,7 @@ shows 'a bell of seven bytes as version 3' '03 0000000B 01 00 01 3C0000020002 01
 # Two strokes of a bell that holds for 2..3 and rests for 5, on one driver. The first ends at 2..3, so the second is ready at 7..8, and ends at 9..11.
 T='03 00000029 01 00 01 3C00 0002 0003 0005 01 02 0D 3C 00000000 00000000 00000003 0D 3C 00000000 00000000 0000000B'
 twice=('stroke 0 key C4 bell 0 ends 2..3 response 2..3 due 3' 'stroke 1 key C4 bell 0 ends 9..11 response 9..11 due 11'
-  'accepted strokes 2 states 3 hold 6')
+  'bell 0 strokes 2 hold 6' 'accepted strokes 2 states 3 hold 6')
 shows 'a rest, just in time' "$T" "${twice[@]}"
 shows 'a rest, on two drivers' "$(with "$T" 5 02)" "${twice[@]}"
 shows 'a rest, its stroke listed too' "$(with "$T" 4 2A 32 0E) 00" "${twice[@]}"
@@ -246,19 +249,23 @@ shows 'the longest rest' "$(with "$T" 14 13 15 88)" 'refused 14 stroke 1 ends 50
 shows 'the longest rest, in time' "$(with "$T" 14 13 15 88 44 13 45 8E)" \
   'stroke 0 key C4 bell 0 ends 2..3 response 2..3 due 3' \
   'stroke 1 key C4 bell 0 ends 5004..5006 response 5004..5006 due 5006' \
+  'bell 0 strokes 2 hold 6' \
   'accepted strokes 2 states 3 hold 6'
 shows 'a rest of 0' "$(with "$T" 15 00)" \
   'stroke 0 key C4 bell 0 ends 2..3 response 2..3 due 3' \
   'stroke 1 key C4 bell 0 ends 4..6 response 4..6 due 11' \
+  'bell 0 strokes 2 hold 6' \
   'accepted strokes 2 states 3 hold 6'
 # Called at 8..8, when the rest is over in any case, it ends at 10..11; at 7..7, it may have to wait for a millisecond, so it ends at 9..11.
 shows 'a rest that is over' "$(with "$T" 37 08 41 08)" \
   'stroke 0 key C4 bell 0 ends 2..3 response 2..3 due 3' \
   'stroke 1 key C4 bell 0 ends 10..11 response 2..3 due 11' \
+  'bell 0 strokes 2 hold 6' \
   'accepted strokes 2 states 3 hold 6'
 shows 'a rest that is nearly over' "$(with "$T" 37 07 41 07)" \
   'stroke 0 key C4 bell 0 ends 2..3 response 2..3 due 3' \
   'stroke 1 key C4 bell 0 ends 9..11 response 2..4 due 11' \
+  'bell 0 strokes 2 hold 6' \
   'accepted strokes 2 states 3 hold 6'
 
 # Two strokes of a bell of rank 1 that holds for 2 and rests for 5, and a lesser stroke, of rank 2, that holds for 3..9. At 2 the second is not ready before 7,
@@ -267,7 +274,7 @@ shows 'a rest that is nearly over' "$(with "$T" 37 07 41 07)" \
 L='03 00000040 01 00 02 3C00 0002 0002 0005 01 3E00 0003 0009 0000 02
   03 0D 3C 00000000 00000000 00000002 0D 3C 00000000 00000000 0000000D 0D 3E 00000000 00000000 0000000B'
 lesser=('stroke 0 key C4 bell 0 ends 2..2 response 2..2 due 2' 'stroke 1 key C4 bell 0 ends 9..13 response 9..13 due 13'
-  'stroke 2 key D4 bell 1 ends 5..11 response 5..11 due 11' 'accepted strokes 3 states 4 hold 13')
+  'stroke 2 key D4 bell 1 ends 5..11 response 5..11 due 11' 'bell 0 strokes 2 hold 4' 'bell 1 strokes 1 hold 9' 'accepted strokes 3 states 4 hold 13')
 shows 'a lesser stroke between' "$L" "${lesser[@]}"
 shows 'a lesser stroke between, which shares a wait' "$(with "$L" 4 41 55 0E) 00" "${lesser[@]}"
 shows 'a lesser stroke between, its own bell rests' "$(with "$L" 23 13 24 88)" "${lesser[@]}"
@@ -278,6 +285,7 @@ shows 'a lesser stroke after both, in time' "$(with "$L" 15 00 68 0D)" \
   'stroke 0 key C4 bell 0 ends 2..2 response 2..2 due 2' \
   'stroke 1 key C4 bell 0 ends 4..4 response 4..4 due 13' \
   'stroke 2 key D4 bell 1 ends 7..13 response 7..13 due 13' \
+  'bell 0 strokes 2 hold 4' 'bell 1 strokes 1 hold 9' \
   'accepted strokes 3 states 4 hold 13'
 
 # The lesser stroke holds for 3 and is called at 0..20. When the first has ended, at 2, the second starts at 7 or the lesser one at 2..6, before 7. After the
@@ -286,7 +294,7 @@ shows 'a lesser stroke after both, in time' "$(with "$L" 15 00 68 0D)" \
 E='03 00000040 01 00 02 3C00 0002 0002 0005 01 3E00 0003 0003 0000 02
   03 0D 3C 00000000 00000000 00000002 0D 3C 00000000 00000000 0000000B 0D 3E 00000000 00000014 00000017'
 either=('stroke 0 key C4 bell 0 ends 2..2 response 2..2 due 2' 'stroke 1 key C4 bell 0 ends 9..11 response 9..11 due 11'
-  'stroke 2 key D4 bell 1 ends 5..23 response 5..23 due 23' 'accepted strokes 3 states 6 hold 7')
+  'stroke 2 key D4 bell 1 ends 5..23 response 5..23 due 23' 'bell 0 strokes 2 hold 4' 'bell 1 strokes 1 hold 3' 'accepted strokes 3 states 6 hold 7')
 shows 'either order' "$E" "${either[@]}"
 shows 'either order, which shares a wait' "$(with "$E" 4 41 55 0E) 00" "${either[@]}"
 # The second stroke's edges are 9..9 and then 9..11.
@@ -298,7 +306,7 @@ shows 'either order, the second late' "$(with "$E" 54 0A)" 'refused 14 stroke 1 
 G='03 00000041 01 00 02 3C00 0002 0004 0001 02 3E00 0003 0003 0000 01
   03 0D 3C 00000000 00000000 00000004 0D 3C 00000000 00000000 0000000B 0E 3E 00000000 00000000 00000007 00'
 greater=('stroke 0 key C4 bell 0 ends 2..4 response 2..4 due 4' 'stroke 1 key C4 bell 0 ends 7..11 response 7..11 due 11'
-  'stroke 2 key D4 bell 1 ends 5..7 response 5..7 due 7' 'accepted strokes 3 states 4 hold 11')
+  'stroke 2 key D4 bell 1 ends 5..7 response 5..7 due 7' 'bell 0 strokes 2 hold 8' 'bell 1 strokes 1 hold 3' 'accepted strokes 3 states 4 hold 11')
 shows 'a greater stroke that shares a wait' "$G" "${greater[@]}"
 shows 'a greater stroke that shares a wait, no rest' "$(with "$G" 15 00)" "${greater[@]}"
 shows 'a greater stroke that shares a wait, its own bell rests' "$(with "$G" 24 09)" "${greater[@]}"
@@ -311,6 +319,7 @@ shows 'a rest beside another driver' '03 00000040 02 00 02 3C00 0002 0003 0004 0
   'stroke 0 key C4 bell 0 ends 2..3 response 2..3 due 3' \
   'stroke 1 key C4 bell 0 ends 8..10 response 8..10 due 10' \
   'stroke 2 key D4 bell 1 ends 10..10 response 10..10 due 10' \
+  'bell 0 strokes 2 hold 6' 'bell 1 strokes 1 hold 10' \
   'accepted strokes 3 states 4 hold 16'
 
 # Row 13 with 16,384 words: on one driver any of K strokes may go first, so level 1 has K states. There is room for 62 with K = 64, for 63 with K = 63. In
@@ -357,7 +366,9 @@ for origin in '44 C4' '15 C#4' '3 D4'; do
   done
   bell=$((bell + 1))
 done
-shows 'all of 16,384 words' "$(in_any_order 44 15 3)" "${lines[@]}" 'accepted strokes 62 states 2880 hold 62'
+shows 'all of 16,384 words' "$(in_any_order 44 15 3)" "${lines[@]}" \
+  'bell 0 strokes 44 hold 44' 'bell 1 strokes 15 hold 15' 'bell 2 strokes 3 hold 3' \
+  'accepted strokes 62 states 2880 hold 62'
 shows 'no more than 16,384 words' "$(in_any_order 21 9 9)" 'refused 13 level 18'
 
 # ---- The marked phrases; M2 is P and M3 row 14, M4 needs a table of another size ----
@@ -367,24 +378,42 @@ hour=0036EE80 # 3600000
 shows 'M1' "$(counted "01 02 3C00 0001 0002 01 3E00 0003 0003 02 02 0D 3C 00000000 00000000 $hour 0D 3E 00000000 00000000 $hour")" \
   'stroke 0 key C4 bell 0 ends 1..2 response 1..2 due 3600000' \
   'stroke 1 key D4 bell 1 ends 4..5 response 4..5 due 3600000' \
+  'bell 0 strokes 1 hold 2' 'bell 1 strokes 1 hold 3' \
   'accepted strokes 2 states 3 hold 5'
 shows 'M5' "$(counted "02 03 3C00 0002 0002 01 3E00 0005 0005 02 4000 0001 0003 03
     03 0D 3C 00000000 00000000 $hour 0D 3E 00000000 00000000 $hour 0D 40 00000000 00000000 $hour")" \
   'stroke 0 key C4 bell 0 ends 2..2 response 2..2 due 3600000' \
   'stroke 1 key D4 bell 1 ends 5..5 response 5..5 due 3600000' \
   'stroke 2 key E4 bell 2 ends 3..5 response 3..5 due 3600000' \
+  'bell 0 strokes 1 hold 2' 'bell 1 strokes 1 hold 5' 'bell 2 strokes 1 hold 3' \
   'accepted strokes 3 states 4 hold 10'
 shows 'M6' "$(counted "02 03 3C00 0002 0004 02 3E00 0001 0001 01 4000 0002 0002 03
     03 0D 3C 00000000 00000000 $hour 0E 3E 00000000 00000000 $hour 00 0D 40 00000003 00000003 $hour")" \
   'stroke 0 key C4 bell 0 ends 2..4 response 2..4 due 3600000' \
   'stroke 1 key D4 bell 1 ends 3..5 response 3..5 due 3600000' \
   'stroke 2 key E4 bell 2 ends 5..6 response 2..3 due 3600000' \
+  'bell 0 strokes 1 hold 4' 'bell 1 strokes 1 hold 1' 'bell 2 strokes 1 hold 2' \
   'accepted strokes 3 states 5 hold 7'
 shows 'M7' "$(counted "01 02 3C00 0001 0001 01 3E00 0001 0001 01 02 0D 3C 00000000 00000000 $hour 0D 3E 00000000 00000000 $hour")" \
   'stroke 0 key C4 bell 0 ends 1..1 response 1..1 due 3600000' \
   'stroke 1 key D4 bell 1 ends 2..2 response 2..2 due 3600000' \
+  'bell 0 strokes 1 hold 1' 'bell 1 strokes 1 hold 1' \
   'accepted strokes 2 states 3 hold 2'
 shows 'M8' "$(counted '01 01 3C00 0001 0001 01 00')" 'accepted strokes 0 states 1 hold 0'
+
+# ---- The bells' lines: bell 3, which holds for 20..40, is struck before bell 2 (3..5), again between that and bell 0 (1..2), and last, and bell 1 never. Each
+# stroke is called when the one before it has long ended, so it ends its bell's hold after its call. Lines rise by bell, and have the longest holds ----
+
+shows 'bells in falling order' "$(counted '01 04 3C00 0001 0002 01 3E00 0007 0008 01 4000 0003 0005 01 4100 0014 0028 01
+    05 0D 41 00000000 00000000 00000028 0D 40 00001770 00001770 00001775 0D 41 00002EE0 00002EE0 00002F08
+    0D 3C 00004650 00004650 00004652 0D 41 00005DC0 00005DC0 00005DE8')" \
+  'stroke 0 key F4 bell 3 ends 20..40 response 20..40 due 40' \
+  'stroke 1 key E4 bell 2 ends 6003..6005 response 3..5 due 6005' \
+  'stroke 2 key F4 bell 3 ends 12020..12040 response 20..40 due 12040' \
+  'stroke 3 key C4 bell 0 ends 18001..18002 response 1..2 due 18002' \
+  'stroke 4 key F4 bell 3 ends 24020..24040 response 20..40 due 24040' \
+  'bell 0 strokes 1 hold 2' 'bell 2 strokes 1 hold 5' 'bell 3 strokes 3 hold 120' \
+  'accepted strokes 5 states 6 hold 127'
 
 # ---- Names: a phrase of one stroke for every key, 12 to 119, as it is written, and shifted there from key 24, 73 or 122 ----
 
@@ -392,12 +421,12 @@ names=(C C# D D# E F F# G G# A A# B)
 for ((key = 12; key < 120; key++)); do
   shows "the name of key $key" "$(counted "$(printf '01 01 %02X 00 0001 0001 00 01 0D %02X 00000000 00000000 00000001' "$key" "$key")")" \
     "stroke 0 key ${names[key % 12]}$((key / 12 - 1)) bell 0 ends 1..1 response 1..1 due 1" \
-    'accepted strokes 1 states 2 hold 1'
+    'bell 0 strokes 1 hold 1' 'accepted strokes 1 states 2 hold 1'
   shift=$((key % 49 - 24))
   shows "the name of key $key, shifted by $shift" "$(counted "$(printf '01 %02X 01 %02X 00 0001 0001 00 01 0D %02X 00000000 00000000 00000001' \
     $((shift & 255)) "$key" $((key - shift)))" 02)" \
     "stroke 0 key ${names[key % 12]}$((key / 12 - 1)) bell 0 ends 1..1 response 1..1 due 1" \
-    'accepted strokes 1 states 2 hold 1'
+    'bell 0 strokes 1 hold 1' 'accepted strokes 1 states 2 hold 1'
 done
 
 # ---- The limit of the input ----

@@ -15,6 +15,8 @@ pub const P: [u8; 50] = [
 pub const P_REPORT: &str = "\
 stroke 0 key C4 bell 0 ends 2..7 response 2..7 due 7
 stroke 1 key D5 bell 1 ends 4..6 response 4..6 due 6
+bell 0 strokes 1 hold 2
+bell 1 strokes 1 hold 4
 accepted strokes 2 states 4 hold 6
 ";
 
@@ -62,6 +64,8 @@ pub fn p_lower() -> Vec<u8> {
 pub const P_LOWER_REPORT: &str = "\
 stroke 0 key A3 bell 0 ends 2..7 response 2..7 due 7
 stroke 1 key B4 bell 1 ends 4..6 response 4..6 due 6
+bell 0 strokes 1 hold 2
+bell 1 strokes 1 hold 4
 accepted strokes 2 states 4 hold 6
 ";
 

@@ -1,5 +1,5 @@
 //! The second checker of carillon phrases, and a second writer and player of them, made from the documents alone: document
-//! 01, of document 02 requests #101 to #107, and for #103 the paper, source document 004.
+//! 01, of document 02 requests #101 to #108, and for #103 the paper, source document 004.
 
 pub mod check;
 pub mod dispatch;
@@ -17,5 +17,6 @@ pub mod random;
 pub mod range;
 pub mod reading;
 pub mod report;
+pub mod struck;
 pub mod walk;
 pub mod writing;

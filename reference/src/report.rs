@@ -1,13 +1,51 @@
 //! The report: its text to the byte, refusal lines, and 15 when the buffer is too short.
 
+use std::collections::BTreeMap;
 use std::fmt::{self, Write};
 
 use crate::check::{Answer, Check, check_phrase};
-use crate::reading::{self, Phrase};
+use crate::reading::{self, Phrase, Stroke};
 
 const NAMES: [&str; 12] = [
     "C", "C#", "D", "D#", "E", "F", "F#", "G", "G#", "A", "A#", "B",
 ];
+
+/// A line of the table after the strokes (request #108): a bell that has any.
+#[derive(Clone, Copy, Debug, PartialEq, Eq)]
+pub struct BellLine {
+    pub bell: usize,
+    /// How many.
+    pub strokes: usize,
+    /// The sum of their cb.
+    pub hold: u64,
+}
+
+impl fmt::Display for BellLine {
+    fn fmt(&self, f: &mut fmt::Formatter<'_>) -> fmt::Result {
+        let BellLine {
+            bell,
+            strokes,
+            hold,
+        } = self;
+        write!(f, "bell {bell} strokes {strokes} hold {hold}")
+    }
+}
+
+/// The table's lines, bells rising.
+pub fn bell_lines(strokes: &[Stroke]) -> Vec<BellLine> {
+    let mut lines = BTreeMap::new();
+    for stroke in strokes {
+        let bell = stroke.bell;
+        let line = lines.entry(bell).or_insert(BellLine {
+            bell,
+            strokes: 0,
+            hold: 0,
+        });
+        line.strokes += 1;
+        line.hold += stroke.hold.high;
+    }
+    lines.into_values().collect()
+}
 
 /// Reads and checks the file, writes the text, gives the answer and the text's length.
 pub fn report(file: &[u8], table_words: usize, buffer: &mut [u8]) -> (Check, usize) {
@@ -68,7 +106,11 @@ fn write_lines(text: &mut String, phrase: &Phrase, check: &Check) -> fmt::Result
             "stroke {number} key {name}{octave} bell {bell} ends {ends} response {response} due {due}"
         )?;
     }
-    let hold: u64 = phrase.strokes.iter().map(|stroke| stroke.hold.high).sum();
+    let lines = bell_lines(&phrase.strokes);
+    for line in &lines {
+        writeln!(text, "{line}")?;
+    }
+    let hold: u64 = lines.iter().map(|line| line.hold).sum();
     writeln!(
         text,
         "accepted strokes {} states {} hold {hold}",
@@ -83,6 +125,14 @@ fn refusal_line(answer: &Answer) -> String {
         Answer::Refused { number, place } => format!("refused {number} at {place}\n"),
         Answer::Late { stroke, ends } => format!("refused 14 stroke {stroke} ends {ends}\n"),
     }
+}
+
+/// How long a text is without its bells' lines, as it was before request #108.
+pub fn length_without_bells(text: &str) -> usize {
+    (text.split_inclusive('\n'))
+        .filter(|line| !line.starts_with("bell "))
+        .map(str::len)
+        .sum()
 }
 
 /// Letter name and octave; keys are 12 to 119, so octaves are 0 to 8.

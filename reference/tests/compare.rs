@@ -2,8 +2,11 @@
 //!
 //! COMPARE_COUNT phrases (20,000) of COMPARE_SEED (1), from number COMPARE_FIRST (0) on, for every two
 //! thousand one of the widest, for every four one with calls at 0, for every four one of version 2, and for
-//! every two one of version 3.
+//! every two one of version 3. Of each version, the first eighth of them once more where they are accepted: in
+//! all buffers around the lengths of their texts, with and without the bells' lines.
 
+#[path = "common/bell_kinds.rs"]
+mod bell_kinds;
 #[path = "common/counts.rs"]
 mod counts;
 #[path = "common/lent.rs"]
@@ -25,6 +28,7 @@ mod was_10;
 
 use std::process::ExitCode;
 
+use bell_kinds::BellKinds;
 use lent::Lent;
 use reference::check::{Check, HOST_WORDS};
 use reference::draft::{Draft, DraftBell, DraftNote};
@@ -36,8 +40,9 @@ use reference::random::{
     self, Case, Generator, at_zero_case, case, rested_case, shifted_case, widest_case,
 };
 use reference::reading::read;
-use reference::report::check_and_text;
-use reference::walk::{capacity, walk_observed, words_per_state};
+use reference::report::{check_and_text, length_without_bells};
+use reference::struck::{longest_text, struck_examples};
+use reference::walk::{capacity, walk, walk_observed, words_per_state};
 use rested_kinds::RestedKinds;
 use rested_verdicts::RestedVerdicts;
 use settings::{Wanted, in_hexadecimal, named};
@@ -49,6 +54,8 @@ use was_10::WasTen;
 /// So many cases have to meet latest starts below zero, all kinds of versions 2 and 3 and what was 10 often; fewer are for
 /// a look at one difference.
 const ENOUGH: u64 = 5_000;
+/// For every so many cases, one is also compared in all buffers around its text's lengths.
+const CASES_PER_BORDERS: u64 = 8;
 
 /// What was compared, by the answers in lent tables.
 #[derive(Default)]
@@ -107,11 +114,8 @@ impl Trial<'_> {
         named("phrase_check", || {
             compare_number(&check, foreign::phrase_check(self.file))
         })?;
-        named("phrase_report", || {
-            let mut lent = self.lend_text(&text);
-            let length = foreign::phrase_report(self.file, lent.slice());
-            compare_text(&text, &lent, length)
-        })?;
+        let length = self.text_length(&text);
+        self.compare_report(&text, length)?;
 
         let (check, text) = check_and_text(self.file, self.table_words);
         named("phrase_check_with", || {
@@ -120,16 +124,32 @@ impl Trial<'_> {
             compare_number(&check, number)?;
             self.compare_table(&table)
         })?;
+        let length = self.text_length(&text);
+        let written = self.compare_report_with(&text, length)?;
+        reports.written += u64::from(written);
+        reports.refused += u64::from(!written);
+        Ok(check.host_number())
+    }
+
+    /// In a buffer of so many bytes.
+    fn compare_report(&mut self, text: &str, length: usize) -> Result<(), String> {
+        named("phrase_report", || {
+            let mut lent = self.lend_text(length);
+            let length = foreign::phrase_report(self.file, lent.slice());
+            compare_text(text, &lent, length)
+        })
+    }
+
+    /// The same in the lent table. Gives whether a text was written.
+    fn compare_report_with(&mut self, text: &str, length: usize) -> Result<bool, String> {
         named("phrase_report_with", || {
             let mut table = self.lend_table();
-            let mut lent = self.lend_text(&text);
+            let mut lent = self.lend_text(length);
             let length = foreign::phrase_report_with(self.file, table.slice(), lent.slice());
-            reports.written += u64::from(length != 0);
-            reports.refused += u64::from(length == 0);
-            compare_text(&text, &lent, length)?;
-            self.compare_table(&table)
-        })?;
-        Ok(check.host_number())
+            compare_text(text, &lent, length)?;
+            self.compare_table(&table)?;
+            Ok(length != 0)
+        })
     }
 
     fn lend_table(&mut self) -> Lent<u32> {
@@ -137,18 +157,22 @@ impl Trial<'_> {
         Lent::new(self.table_words, || random.next_number() as u32)
     }
 
-    /// A buffer around the text's exact length.
-    fn lend_text(&mut self, text: &str) -> Lent<u8> {
+    /// For a buffer: around the text's exact length, or as long as it would be without the bells' lines.
+    fn text_length(&mut self, text: &str) -> usize {
         let exact = text.len();
-        let length = match self.random.below(8) {
+        match self.random.below(9) {
             0 => 0,
             1 => self.random.below(exact as u64) as usize,
             2 => exact - 1,
             3 | 4 => exact,
             5 => exact + 1,
             6 => exact + self.random.below(200) as usize,
+            7 => length_without_bells(text),
             _ => 32_768,
-        };
+        }
+    }
+
+    fn lend_text(&mut self, length: usize) -> Lent<u8> {
         let random = &mut self.random;
         Lent::new(length, || random.next_number() as u8)
     }
@@ -361,6 +385,93 @@ fn compare_examples_of_version_3() -> Result<(), String> {
     Ok(())
 }
 
+/// Phrases made for the bells' lines: in buffers of all lengths up to the text's and just above; and the longest texts, in
+/// tables that these take all of, and in one word less.
+fn compare_struck_bells() -> Result<(), String> {
+    let examples = struck_examples();
+    let files: Vec<Vec<u8>> = examples.iter().map(|e| e.draft.bytes()).collect();
+    compare_files(&files)?;
+    for (example, file) in examples.iter().zip(&files) {
+        let lengths = 0..example.text.len() + 2;
+        compare_in_buffers(file, HOST_WORDS, example.text, lengths)
+            .map_err(|difference| format!("{}: {difference}", example.name))?;
+    }
+    println!("examples of struck bells that agree: {}", files.len());
+
+    for chains in [2, 3] {
+        let file = longest_text(chains).bytes();
+        let phrase = read(&file).expect("the draft is valid");
+        let pair = 2 * words_per_state(&phrase);
+        let words = (pair * walk(&phrase, usize::MAX).peak) as usize;
+        for table_words in [HOST_WORDS, words - 1, words] {
+            let (_, text) = check_and_text(&file, table_words);
+            compare_in_buffers(&file, table_words, &text, borders(&text))?;
+            println!("a text of {} bytes agrees", text.len());
+        }
+    }
+    Ok(())
+}
+
+/// The lengths at which a buffer gets too short for the text, and would get too short for it without its bells' lines.
+fn borders(text: &str) -> impl Iterator<Item = usize> {
+    let (without, exact) = (length_without_bells(text), text.len());
+    [without - 1, without, exact - 1, exact, exact + 1].into_iter()
+}
+
+/// The reports of a text in buffers of these lengths: with the lent table, and by the host's call if its own is as long.
+fn compare_in_buffers(
+    file: &[u8],
+    table_words: usize,
+    text: &str,
+    lengths: impl Iterator<Item = usize>,
+) -> Result<(), String> {
+    let mut trial = Trial {
+        file,
+        table_words,
+        random: Generator::new(random::SEED),
+    };
+    let mut compare = |length| {
+        if table_words == HOST_WORDS {
+            trial.compare_report(text, length)?;
+        }
+        trial.compare_report_with(text, length)
+    };
+    for length in lengths {
+        compare(length).map_err(|difference| {
+            let file = in_hexadecimal(file);
+            format!("{difference}\ntable {table_words} words, file {file}")
+        })?;
+    }
+    Ok(())
+}
+
+/// Accepted phrases of all versions, in buffers of all border lengths.
+fn compare_borders() -> Result<(), String> {
+    let wanted = Wanted::new()?;
+    let mut kinds = BellKinds::new();
+    let drawn = |case: fn(u64, u64) -> Case, cases_per| {
+        let numbers = wanted.numbers(cases_per * CASES_PER_BORDERS);
+        numbers.map(move |number| (number, case(wanted.seed, number)))
+    };
+    let version_1 = drawn(case, 1);
+    let version_2 = drawn(shifted_case, random::CASES_PER_SHIFTED);
+    let version_3 = drawn(rested_case, random::CASES_PER_RESTED);
+    for (number, Case { file, .. }) in version_1.chain(version_2).chain(version_3) {
+        let (check, text) = check_and_text(&file, HOST_WORDS);
+        if !check.is_accepted() {
+            continue;
+        }
+        compare_in_buffers(&file, HOST_WORDS, &text, borders(&text))
+            .map_err(|difference| format!("{}: {difference}", wanted.name(number)))?;
+        kinds.add(&read(&file).expect("it was accepted"));
+    }
+    kinds.print();
+    if wanted.count < ENOUGH {
+        return Ok(());
+    }
+    kinds.demand(20)
+}
+
 /// Every rest that two bytes can hold, on a bell that is struck twice.
 fn compare_rests() -> Result<(), String> {
     let mut accepted = 0;
@@ -471,6 +582,8 @@ fn main() -> ExitCode {
         .and_then(|()| compare_examples_of_version_3())
         .and_then(|()| compare_rests())
         .and_then(|()| compare_random_phrases_of_version_3())
+        .and_then(|()| compare_struck_bells())
+        .and_then(|()| compare_borders())
     {
         Ok(()) => ExitCode::SUCCESS,
         Err(difference) => {

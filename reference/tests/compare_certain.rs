@@ -54,6 +54,8 @@ struct Compared {
     /// Ends printed for strokes of accepted phrases, and lines that tell of a late stroke; one for each table.
     printed: u64,
     told: u64,
+    /// Bells' lines recounted.
+    bells: u64,
 }
 
 impl Compared {
@@ -63,14 +65,15 @@ impl Compared {
             rested: RestedRuns::new(),
             printed: 0,
             told: 0,
+            bells: 0,
         }
     }
 
     fn print(&self, what: &str) {
         self.kinds.print(what);
         println!(
-            "ends printed as they are played: {}, late strokes told of: {}",
-            self.printed, self.told
+            "ends printed as they are played: {}, late strokes told of: {}, lines of bells: {}",
+            self.printed, self.told, self.bells
         );
     }
 }
@@ -185,12 +188,12 @@ impl Trial<'_> {
         compared: &mut Compared,
     ) -> Result<(), String> {
         let lines: Vec<&str> = text.lines().collect();
-        let (&last, strokes) = lines.split_last().ok_or("no line")?;
+        let (&last, lines) = lines.split_last().ok_or("no line")?;
         let ends = &self.played.ends;
         if !expected.is_accepted() {
             let told = late_strokes(self.phrase, self.played)[0];
             compared.told += 1;
-            same(strokes.is_empty(), "lines before the refusal")?;
+            same(lines.is_empty(), "lines before the refusal")?;
             same(number_after(last, "refused") == Some(14), "not 14")?;
             same(
                 number_after(last, "stroke") == Some(told as u64),
@@ -199,7 +202,8 @@ impl Trial<'_> {
             return same_ends(last, ends[told]);
         }
         let count = self.phrase.strokes.len();
-        same(strokes.len() == count, "not a line for each stroke")?;
+        let (strokes, bells) =
+            (lines.split_at_checked(count)).ok_or("not a line for each stroke")?;
         for (number, line) in strokes.iter().enumerate() {
             compared.printed += 1;
             let due = number_after(line, "due");
@@ -207,9 +211,31 @@ impl Trial<'_> {
             same_ends(line, ends[number])?;
             same(due >= Some(ends[number]), format!("not by its due: {line}"))?;
         }
+        compared.bells += bells.len() as u64;
+        self.compare_bells(strokes, bells, last)?;
         same(
             number_after(last, "states") == Some(count as u64 + 1),
             format!("not a state for each level: {last}"),
+        )
+    }
+
+    /// The bells' lines and the total, recounted from the bells in the strokes' lines.
+    fn compare_bells(&self, strokes: &[&str], bells: &[&str], last: &str) -> Result<(), String> {
+        let struck = strokes.iter().map(|line| number_after(line, "bell"));
+        let struck: Vec<Option<u64>> = struck.collect();
+        let (mut due, mut total) = (Vec::new(), 0);
+        for (number, bell) in (0..).zip(&self.phrase.bells) {
+            let count = struck.iter().filter(|&&b| b == Some(number)).count();
+            let hold = count as u64 * bell.hold.high;
+            total += hold;
+            if count > 0 {
+                due.push(format!("bell {number} strokes {count} hold {hold}"));
+            }
+        }
+        same(bells == due, format!("expected {due:?}, found {bells:?}"))?;
+        same(
+            number_after(last, "hold") == Some(total),
+            format!("{total} in all: {last}"),
         )
     }
 }
@@ -298,6 +324,7 @@ fn compare_random(
     compared.kinds.demand_all(cases)?;
     same(compared.printed >= 10 * cases, "few ends are printed")?;
     same(compared.told >= cases, "few late strokes are told of")?;
+    same(compared.bells >= 5 * cases, "few lines of bells")?;
     if version == 3 {
         compared.rested.demand(cases)?;
     }

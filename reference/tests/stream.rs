@@ -1,6 +1,8 @@
 //! The random stream is worth comparing on: every kind of answer and every shape is frequent, and
 //! large phrases are there. A change of the draw that loses any of this fails here.
 
+#[path = "common/bell_kinds.rs"]
+mod bell_kinds;
 #[path = "common/counts.rs"]
 mod counts;
 #[path = "common/rested_kinds.rs"]
@@ -16,6 +18,7 @@ mod was_10;
 
 use std::sync::LazyLock;
 
+use bell_kinds::BellKinds;
 use reference::check::{Check, HOST_WORDS, check, check_phrase};
 use reference::draft::Draft;
 use reference::note_order::file_was_10;
@@ -164,10 +167,12 @@ fn accepted_phrases_have_all_shapes() {
     let mut by_strokes = [0; 65];
     let mut by_drivers = [0; 9];
     let (mut joined, mut doubled, mut waiting, mut branching) = (0, 0, 0, 0);
+    let mut bells = BellKinds::new();
     for (file, Walked { phrase, host, .. }) in walked() {
         if !is_accepted(host) {
             continue;
         }
+        bells.add(phrase);
         by_strokes[phrase.strokes.len()] += 1;
         by_drivers[phrase.drivers] += 1;
         joined += u64::from(host.edges > host.states - 1);
@@ -181,6 +186,7 @@ fn accepted_phrases_have_all_shapes() {
         doubled += u64::from((1..written.len()).any(|b| written[..b].contains(&written[b])));
     }
     println!("by K: {by_strokes:?}\nby m: {by_drivers:?}");
+    bells.print();
     println!(
         "joined {joined}, doubled {doubled}, waiting {waiting}, over 10 in a level {branching}"
     );
@@ -189,6 +195,7 @@ fn accepted_phrases_have_all_shapes() {
     for count in [joined, doubled, waiting, branching] {
         assert!(count > 200);
     }
+    bells.demand(20).unwrap();
 }
 
 #[test]

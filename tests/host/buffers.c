@@ -1,6 +1,6 @@
 /*
  * Calls the seven calls of host/phrase.h on files good and bad, with tables, texts and files of odd sizes and at odd places, and holds answers, texts and all
- * that has to stay to what document 01 and requests 101, 102, 104 and 106 say. phrase_play gets an empty playing here; playings.c has the others. Every
+ * that has to stay to what document 01 and requests 101, 102, 104, 106 and 108 say. phrase_play gets an empty playing here; playings.c has the others. Every
  * expected value is written here by hand; of a phrase that is accepted, late or too large, and of the same in version 2 with a shift and in version 3 with
  * rests that do not matter, it is one. areas.h says how memory is lent.
  *
@@ -225,6 +225,8 @@ static void try_outcome(const struct file *file, const struct outcome *outcome)
 #define P_TEXT                                               \
     "stroke 0 key C4 bell 0 ends 2..7 response 2..7 due 7\n" \
     "stroke 1 key D5 bell 1 ends 4..6 response 4..6 due 6\n" \
+    "bell 0 strokes 1 hold 2\n"                              \
+    "bell 1 strokes 1 hold 4\n"                              \
     "accepted strokes 2 states 4 hold 6\n"
 #define FULL_AT(level) "refused 13 level " level "\n"
 
@@ -347,25 +349,47 @@ static const struct {
 #define M1_TEXT                                                    \
     "stroke 0 key C4 bell 0 ends 1..2 response 1..2 due 3600000\n" \
     "stroke 1 key D4 bell 1 ends 4..5 response 4..5 due 3600000\n" \
+    "bell 0 strokes 1 hold 2\n"                                    \
+    "bell 1 strokes 1 hold 3\n"                                    \
     "accepted strokes 2 states 3 hold 5\n"
 #define M5_TEXT                                                    \
     "stroke 0 key C4 bell 0 ends 2..2 response 2..2 due 3600000\n" \
     "stroke 1 key D4 bell 1 ends 5..5 response 5..5 due 3600000\n" \
     "stroke 2 key E4 bell 2 ends 3..5 response 3..5 due 3600000\n" \
+    "bell 0 strokes 1 hold 2\n"                                    \
+    "bell 1 strokes 1 hold 5\n"                                    \
+    "bell 2 strokes 1 hold 3\n"                                    \
     "accepted strokes 3 states 4 hold 10\n"
 #define M6_TEXT                                                    \
     "stroke 0 key C4 bell 0 ends 2..4 response 2..4 due 3600000\n" \
     "stroke 1 key D4 bell 1 ends 3..5 response 3..5 due 3600000\n" \
     "stroke 2 key E4 bell 2 ends 5..6 response 2..3 due 3600000\n" \
+    "bell 0 strokes 1 hold 4\n"                                    \
+    "bell 1 strokes 1 hold 1\n"                                    \
+    "bell 2 strokes 1 hold 2\n"                                    \
     "accepted strokes 3 states 5 hold 7\n"
 #define M7_TEXT                                                    \
     "stroke 0 key C4 bell 0 ends 1..1 response 1..1 due 3600000\n" \
     "stroke 1 key D4 bell 1 ends 2..2 response 2..2 due 3600000\n" \
+    "bell 0 strokes 1 hold 1\n"                                    \
+    "bell 1 strokes 1 hold 1\n"                                    \
     "accepted strokes 2 states 3 hold 2\n"
-#define ONE_TEXT(key) "stroke 0 key " key " bell 0 ends 1..1 response 1..1 due 3600000\naccepted strokes 1 states 2 hold 1\n"
+#define ONE_TEXT(key) \
+    "stroke 0 key " key " bell 0 ends 1..1 response 1..1 due 3600000\nbell 0 strokes 1 hold 1\naccepted strokes 1 states 2 hold 1\n"
 #define M8_TEXT "accepted strokes 0 states 1 hold 0\n"
+/* Lines of bells rise by number, though strokes fall; 40 thrice is 120. */
+#define FALLING_TEXT                                                       \
+    "stroke 0 key F4 bell 3 ends 20..40 response 20..40 due 40\n"          \
+    "stroke 1 key E4 bell 2 ends 6003..6005 response 3..5 due 6005\n"      \
+    "stroke 2 key F4 bell 3 ends 12020..12040 response 20..40 due 12040\n" \
+    "stroke 3 key C4 bell 0 ends 18001..18002 response 1..2 due 18002\n"   \
+    "stroke 4 key F4 bell 3 ends 24020..24040 response 20..40 due 24040\n" \
+    "bell 0 strokes 1 hold 2\n"                                            \
+    "bell 2 strokes 1 hold 5\n"                                            \
+    "bell 3 strokes 3 hold 120\n"                                          \
+    "accepted strokes 5 states 6 hold 127\n"
 
-/* Files that are read. P, M1 and M7: W = 8; M5 and M6: W = 12; M8: W = 4, on 8 drivers 18. */
+/* Files that are read. P, M1 and M7: W = 8; M5 and M6: W = 12; M8: W = 4, on 8 drivers 18; FALLING: W = 14. */
 static const struct {
     const char *name, *hex;
     size_t at;
@@ -406,6 +430,8 @@ static const struct {
     {"M8", M8, UNCHANGED, {16384, 16384, 0, 0, M8_TEXT}},
     {"M8 on 8 drivers", M8_ON_8, UNCHANGED, {35, 0, 13, 0, FULL_AT("0")}},
     {"M8 on 8 drivers", M8_ON_8, UNCHANGED, {37, 36, 0, 0, M8_TEXT}},
+    {"bells in falling order", FALLING, UNCHANGED, {28, 28, 0, 0, FALLING_TEXT}},
+    {"bells in falling order", FALLING, UNCHANGED, {16384, 16380, 0, 0, FALLING_TEXT}},
 };
 
 /* Files of version 2 that are read. One stroke: W = 6. The text has the key that sounds, also where the one that is written is no bell's. */
@@ -435,11 +461,13 @@ static const struct {
 #define TWICE_TEXT                                              \
     "stroke 0 key C4 bell 0 ends 2..3 response 2..3 due 3\n"    \
     "stroke 1 key C4 bell 0 ends 9..11 response 9..11 due 11\n" \
+    "bell 0 strokes 2 hold 6\n"                                 \
     "accepted strokes 2 states 3 hold 6\n"
 /* The same without the rest: the second is ready at 2..3. */
 #define RESTLESS_TEXT                                         \
     "stroke 0 key C4 bell 0 ends 2..3 response 2..3 due 3\n"  \
     "stroke 1 key C4 bell 0 ends 4..6 response 4..6 due 11\n" \
+    "bell 0 strokes 2 hold 6\n"                               \
     "accepted strokes 2 states 3 hold 6\n"
 
 /* Two strokes of bell 0, called at 0, beside another note, on one driver. W = 10. Rests stand at 14 and 23, due times at 37, 51 and 65. */
@@ -457,6 +485,8 @@ static const struct {
     "stroke 0 key C4 bell 0 ends 2..2 response 2..2 due 2\n"    \
     "stroke 1 key C4 bell 0 ends 9..13 response 9..13 due 13\n" \
     "stroke 2 key D4 bell 1 ends 5..11 response 5..11 due 11\n" \
+    "bell 0 strokes 2 hold 4\n"                                 \
+    "bell 1 strokes 1 hold 9\n"                                 \
     "accepted strokes 3 states 4 hold 13\n"
 /*
  * The lesser stroke holds for 3 and is called at 0..20. Level 2 has two states: the second stroke started, at 7, or the lesser one, at 2..6. Then the lesser
@@ -469,6 +499,8 @@ static const struct {
     "stroke 0 key C4 bell 0 ends 2..2 response 2..2 due 2\n"    \
     "stroke 1 key C4 bell 0 ends 9..11 response 9..11 due 11\n" \
     "stroke 2 key D4 bell 1 ends 5..23 response 5..23 due 23\n" \
+    "bell 0 strokes 2 hold 4\n"                                 \
+    "bell 1 strokes 1 hold 3\n"                                 \
     "accepted strokes 3 states 6 hold 7\n"
 /*
  * The other stroke has rank 1 and lists the first, which holds for 2..4; the second has rank 2, and its bell rests for 1. Both wait for the first, the other
@@ -479,6 +511,8 @@ static const struct {
     "stroke 0 key C4 bell 0 ends 2..4 response 2..4 due 4\n"    \
     "stroke 1 key C4 bell 0 ends 7..11 response 7..11 due 11\n" \
     "stroke 2 key D4 bell 1 ends 5..7 response 5..7 due 7\n"    \
+    "bell 0 strokes 2 hold 8\n"                                 \
+    "bell 1 strokes 1 hold 3\n"                                 \
     "accepted strokes 3 states 4 hold 11\n"
 
 /* Files of version 3 that are read. In all but P rests matter. */
@@ -542,7 +576,7 @@ static void try_refusals(void)
     }
 }
 
-/* In version 1, in version 2 with a shift, mostly another each time, and so in version 3, with rests of bells that have but one stroke. */
+/* In version 1, in version 2 with a shift, mostly another each time, and so in version 3, with rests that hold no stroke back. */
 static void try_walks(void)
 {
     size_t i;
@@ -576,7 +610,26 @@ static void try_rests(void)
     }
 }
 
+/* P's text has 189 bytes. Where all but its bells' lines of 24 bytes each would fit, in 141, and in 188, no byte is written. */
+static void try_bells_short(void)
+{
+    static const size_t sizes[] = {141, 188, 189};
+    static const struct outcome outcome = {16384, 16384, 0, 0, P_TEXT};
+    struct file file = from_hex("P", P);
+    size_t s;
+    int i;
+    snprintf(trial, sizeof trial, "P's text as this test has it");
+    expect_number(strlen(P_TEXT), 189, "its length");
+    for (i = 0; i < SETTINGS; i++)
+        for (s = 0; s < sizeof sizes / sizeof *sizes; s++) {
+            try_report_with(&file, &outcome, sizes[s], setting_number(i));
+            try_report(&file, &outcome, sizes[s], setting_number(i));
+        }
+}
+
 /* ---- Larger files ---- */
+
+static const char *const names[] = {"C", "C#", "D", "D#", "E", "F", "F#", "G", "G#", "A", "A#", "B"};
 
 /* Strokes on one driver, each on its own bell, any of which may go first: level 1 has a state for each. */
 static void try_level_full(unsigned strokes, struct outcome outcome)
@@ -593,40 +646,56 @@ static void try_level_full(unsigned strokes, struct outcome outcome)
 }
 
 /*
- * The text of 64 strokes of one bell, one after the other on 8 drivers: nearly the longest that there is, 5,533 bytes.
- * Stroke 0 is called at 1000000..3000000, the others at 0; each holds its driver for 5000, and then the bell rests.
+ * 64 strokes, one after the other on 8 drivers, of bell 10 or, each waiting for the one before it, of bells 10 to 73. Stroke 0 is called at 1000000..3000000,
+ * the others at 0; each holds its driver for 5000, and then the bell rests.
  */
-static void write_longest_text(char *text, unsigned rest)
+static struct file one_by_one(const char *name, unsigned struck)
 {
-    size_t length = (size_t)sprintf(text, "stroke 0 key A#4 bell 10 ends 1005000..3005000 response 5000..2005000 due 3600000\n");
+    struct file file = begin(name, 8, 10 + struck);
+    unsigned i;
+    for (i = 0; i < 10 + struck; i++)
+        add_bell(&file, 12 + i, 5000, 5000, 1);
+    add_byte(&file, 64);
+    for (i = 0; i < 64; i++) {
+        add_note(&file, 22 + i % struck, i == 0 ? 1000000 : 0, i == 0 ? 3000000 : 0, 3600000);
+        if (struck > 1 && i > 0)
+            add_waits(&file, i - 1, 1);
+    }
+    finish(&file);
+    return file;
+}
+
+/*
+ * Its text. With keys like A#0 the strokes' lines have 82 bytes, 9 times 85 and 54 times 86; the last line has 42. Of one bell, with its line of 31, that makes
+ * 5,564. Of 64 bells, 37 of which have a shorter key, with 64 lines of 28, it makes 7,288: nearly the longest that there is, for none has over 7,346.
+ */
+static void write_longest_text(char *text, unsigned struck, unsigned rest)
+{
+    size_t length = (size_t)sprintf(text, "stroke 0 key A#0 bell 10 ends 1005000..3005000 response 5000..2005000 due 3600000\n");
     unsigned i;
     for (i = 1; i < 64; i++) {
-        unsigned earliest = 1005000 + (5000 + rest) * i, latest = 3005000 + (5000 + rest) * i;
-        length += (size_t)sprintf(text + length, "stroke %u key A#4 bell 10 ends %u..%u response %u..%u due 3600000\n", i, earliest, latest,
-                                  earliest, latest);
+        unsigned earliest = 1005000 + (5000 + rest) * i, latest = 3005000 + (5000 + rest) * i, key = 22 + i % struck;
+        length += (size_t)sprintf(text + length, "stroke %u key %s%u bell %u ends %u..%u response %u..%u due 3600000\n", i, names[key % 12], key / 12 - 1,
+                                  10 + i % struck, earliest, latest, earliest, latest);
     }
+    for (i = 0; i < struck; i++)
+        length += (size_t)sprintf(text + length, "bell %u strokes %u hold %u\n", 10 + i, 64 / struck, 64 / struck * 5000);
     length += (size_t)sprintf(text + length, "accepted strokes 64 states 65 hold 320000\n");
-    snprintf(trial, sizeof trial, "the longest text as this test writes it");
-    expect_number(length, 5533, "its length");
+    snprintf(trial, sizeof trial, "the longest text as this test writes it, of %u bells", struck);
+    expect_number(length, struck == 1 ? 5564 : 7288, "its length");
 }
 
 /* W = 146. A rest of 4444 is the longest after which the last stroke, which ends at 3005000 + 63 * 9444 at the latest, is in time. */
 static void try_longest_text(void)
 {
     static char text[MOST_TEXT];
-    struct file file = begin("64 strokes of one bell", 8, 11), late;
+    struct file file = one_by_one("64 strokes of one bell", 1), apart = one_by_one("64 strokes of 64 bells", 64), late;
     struct outcome full = {291, 0, 13, 0, FULL_AT("0")}, exact = {292, 292, 0, 0, text}, own = {16384, 16352, 0, 0, text};
     struct outcome last = {16384, 16352, 14, 63, "refused 14 stroke 63 ends 1600035..3600035\n"};
-    unsigned i;
 
-    for (i = 0; i < 11; i++)
-        add_bell(&file, 60 + i, 5000, 5000, 1);
-    add_byte(&file, 64);
-    for (i = 0; i < 64; i++)
-        add_note(&file, 70, i == 0 ? 1000000 : 0, i == 0 ? 3000000 : 0, 3600000);
-    finish(&file);
-
-    write_longest_text(text, 0);
+    write_longest_text(text, 64, 0);
+    try_outcome(&apart, &own);
+    write_longest_text(text, 1, 0);
     try_outcome(&file, &full);
     try_outcome(&file, &exact);
     try_outcome(&file, &own);
@@ -636,7 +705,7 @@ static void try_longest_text(void)
     late = rested_alike(&file, 4445);
     try_outcome(&late, &last);
     file = rested_alike(&file, 4444);
-    write_longest_text(text, 4444);
+    write_longest_text(text, 1, 4444);
     try_outcome(&file, &full);
     try_outcome(&file, &exact);
     try_outcome(&file, &own);
@@ -644,11 +713,10 @@ static void try_longest_text(void)
 
 /*
  * The longest file in each version: stroke i waits for the one before it, of another bell, and holds for 1..5000, so it ends at i + 1..5000 (i + 1). No bell is
- * struck twice, so no rest matters. W = 146.
+ * struck twice, so no rest matters. They are struck from 95 down to 32, and their lines rise. W = 146.
  */
 static void try_longest_file(void)
 {
-    static const char *const names[] = {"C", "C#", "D", "D#", "E", "F", "F#", "G", "G#", "A", "A#", "B"};
     static char text[MOST_TEXT];
     struct file file = longest();
     struct outcome full = {291, 0, 13, 0, FULL_AT("0")}, own = {16384, 16352, 0, 0, text};
@@ -657,6 +725,8 @@ static void try_longest_file(void)
     for (i = 0; i < 64; i++)
         length += (size_t)sprintf(text + length, "stroke %u key %s%u bell %u ends %u..%u response %u..%u due 3600000\n", i, names[(107 - i) % 12],
                                   (107 - i) / 12 - 1, 95 - i, i + 1, 5000 * (i + 1), i + 1, 5000 * (i + 1));
+    for (i = 32; i < 96; i++)
+        length += (size_t)sprintf(text + length, "bell %u strokes 1 hold 5000\n", i);
     sprintf(text + length, "accepted strokes 64 states 65 hold 320000\n");
     try_outcome(&file, &own);
     file = shifted(&file, -24);
@@ -694,6 +764,7 @@ int main(void)
     try_walks();
     try_shifts();
     try_rests();
+    try_bells_short();
     try_larger_files();
     return end_test();
 }

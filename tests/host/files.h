@@ -47,6 +47,15 @@ struct file {
 #define M8 "01 0000000A 01 01 3C00 0001 0001 00 00"
 #define M8_ON_8 "01 0000000A 08 01 3C00 0001 0001 00 00"
 
+/*
+ * Bell 3, which holds for 20..40, is struck before bell 2 (3..5), again between that and bell 0 (1..2), and last; bell 1 is not struck. Strokes are called 6000
+ * apart, so that each ends its bell's hold after its call, and no rest of a bell matters.
+ */
+#define FALLING                                                                                          \
+    "01 00000065 01 04 3C00 0001 0002 01 3E00 0007 0008 01 4000 0003 0005 01 4100 0014 0028 01 05"       \
+    "0D 41 00000000 00000000 00000028 0D 40 00001770 00001770 00001775 0D 41 00002EE0 00002EE0 00002F08" \
+    "0D 3C 00004650 00004650 00004652 0D 41 00005DC0 00005DC0 00005DE8"
+
 #define UNCHANGED 0, 0x01   /* place and byte, where one is changed: byte 0 is 01 already */
 #define UNCHANGED_2 0, 0x02 /* and 02 in version 2 */
 #define UNCHANGED_3 0, 0x03 /* and 03 in version 3 */

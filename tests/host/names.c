@@ -1,7 +1,7 @@
 /*
  * Provokes every name of host/phrase.h by the calls, and holds it to the number that document 01 or request 101, 102, 104 or 106 gives: each refusal by
  * document 01's example of it, the table's words by a phrase that needs all of them, the text's bytes by a long text, the limits of a phrase and of a playing
- * by one that reaches them, and one that passes them. So a header with another number is seen.
+ * by one that reaches them, and one that passes them. So a header with another number is seen. Texts have the bells' lines of request 108.
  *
  * Prints one line for each failure and a count; exit status 0 when nothing failed.
  */
@@ -132,16 +132,18 @@ static enum phrase_number report_number(uint64_t answer, size_t length)
     return length == 0 ? PHRASE_TEXT_SHORT : (enum phrase_number)phrase_refusal(answer);
 }
 
+/* P's text has 53 + 53 bytes for its strokes, 24 + 24 for its bells and 35 for the last line: 189, and 141 without the bells' lines. */
 static void try_text_short(void)
 {
     struct file p = from_hex("PHRASE_TEXT_SHORT", P);
     uint64_t answer = phrase_check(p.bytes, p.size);
     uint32_t table[32];
-    uint8_t text[141];
+    uint8_t text[189];
     expect(p.name, "the number of P in 10 bytes", report_number(answer, phrase_report(p.bytes, p.size, text, 10)), 15);
     expect(p.name, "the same with a lent table", report_number(answer, phrase_report_with(p.bytes, p.size, table, 32, text, 10)), 15);
-    expect(p.name, "the number of P in 140 bytes", report_number(answer, phrase_report(p.bytes, p.size, text, 140)), 15);
-    expect(p.name, "the number of P in 141 bytes", report_number(answer, phrase_report(p.bytes, p.size, text, 141)), 0);
+    expect(p.name, "the number of P in 141 bytes", report_number(answer, phrase_report(p.bytes, p.size, text, 141)), 15);
+    expect(p.name, "the number of P in 188 bytes", report_number(answer, phrase_report(p.bytes, p.size, text, 188)), 15);
+    expect(p.name, "the number of P in 189 bytes", report_number(answer, phrase_report(p.bytes, p.size, text, 189)), 0);
 }
 
 /* ---- A file that does not fit ---- */
@@ -321,7 +323,9 @@ static int ends_with(size_t length, const char *end)
 /* A phrase that needs every word of the table. */
 static void try_table_words(void)
 {
-    static const char accepted[] = "\naccepted strokes 62 states 2880 hold 62\n", full[] = "refused 13 level 18\n"; /* files.h has the sum */
+    static const char accepted[] = "\nbell 0 strokes 44 hold 44\nbell 1 strokes 15 hold 15\nbell 2 strokes 3 hold 3\n"
+                                   "accepted strokes 62 states 2880 hold 62\n";
+    static const char full[] = "refused 13 level 18\n"; /* files.h has the sums */
     const char *about = "PHRASE_TABLE_WORDS";
     struct file file = crowded();
     uint64_t answer;
@@ -347,7 +351,7 @@ static void try_text_bytes(void)
     const char *about = "PHRASE_TEXT_BYTES";
     struct file file = crowded();
     expect(about, "the name", PHRASE_TEXT_BYTES, 32768);
-    expect(about, "a text of 63 lines fits", phrase_report(file.bytes, file.size, text, PHRASE_TEXT_BYTES) != 0, 1);
+    expect(about, "a text of 66 lines fits", phrase_report(file.bytes, file.size, text, PHRASE_TEXT_BYTES) != 0, 1);
 }
 
 int main(void)

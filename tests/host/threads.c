@@ -1,7 +1,7 @@
 /*
  * Makes the seven calls of host/phrase.h from several threads at the same time, on phrases with different answers, and holds each answer, text, file and run
- * to what document 01 and requests 101, 102, 104 and 106 say. Buffers are the threads' own; only the files and the playing are shared, which the calls only
- * read. The threads have as much stack as phrase.h says that every call can do with.
+ * to what document 01 and requests 101, 102, 104, 106 and 108 say. Buffers are the threads' own; only the files and the playing are shared, which the calls
+ * only read. The threads have as much stack as phrase.h says that every call can do with.
  *
  * Prints one line for each thread that saw a difference, else a count; exit status 0 when there was none.
  */
@@ -45,10 +45,13 @@ struct example {
 #define P_TEXT                                               \
     "stroke 0 key C4 bell 0 ends 2..7 response 2..7 due 7\n" \
     "stroke 1 key D5 bell 1 ends 4..6 response 4..6 due 6\n" \
+    "bell 0 strokes 1 hold 2\n"                              \
+    "bell 1 strokes 1 hold 4\n"                              \
     "accepted strokes 2 states 4 hold 6\n"
 #define TWICE_TEXT                                              \
     "stroke 0 key C4 bell 0 ends 2..9 response 2..9 due 9\n"    \
     "stroke 1 key C4 bell 0 ends 7..16 response 7..16 due 16\n" \
+    "bell 0 strokes 2 hold 8\n"                                 \
     "accepted strokes 2 states 3 hold 8\n"
 #define P_RUN {4, 0}, {6, 4}
 #define NO_RUN {0, 0}, {0, 0}

@@ -8,8 +8,9 @@ use Rattle.model.specs.Refusals.{lateJob}
 use Rattle.text.specs.Bytes.{bytes}
 use Rattle.text.specs.Decimal.{decimal}
 use Rattle.text.specs.Keys.{keyText}
-use Rattle.lines.specs.Lines.{labelled, ranged, originText, timesText, strokeLine, acceptedLine, placeLabel, refusedLine, lateLine}
+use Rattle.lines.specs.Lines.{labelled, ranged, originText, timesText, strokeLine, bellLine, acceptedLine, placeLabel, refusedLine, lateLine}
 use Rattle.lines.specs.declared.lines.Stroke.{Stroke}
+use Rattle.lines.specs.declared.lines.BellTotal.{BellTotal}
 
 -- how many digits a number has
 abbrev size : ℕ → ℕ
@@ -64,22 +65,29 @@ module _ (s : Stroke) where
   unfolding strokeLine
   stroke-length = omega (arith, length-append (originText s) (timesText s), origin-length, times-length)
 
+-- three numbers, each after its label, and the line end
+three-length : (a b c : List ℕ) (i j k : ℕ)
+    → length (labelled a i ++ (labelled b j ++ (labelled c k ++ bytes "\n"))) ≡ (length a + (length b + (length c + 1))) + (size i + (size j + size k))
+three-length a b c i j k =
+    omega (
+      arith,
+      length-append (labelled a i) (labelled b j ++ (labelled c k ++ bytes "\n")),
+      length-append (labelled b j) (labelled c k ++ bytes "\n"),
+      length-append (labelled c k) (bytes "\n"),
+      labelled-length a i,
+      labelled-length b j,
+      labelled-length c k,
+    )
+
+-- The line of a bell: its fixed bytes, and its numbers.
+pub bell-length : (b : BellTotal) → length (bellLine b) ≡ 21 + (size (b .number) + (size (b .strokes) + size (b .hold)))
+unfolding bellLine
+bell-length b = three-length (bytes "bell ") (bytes " strokes ") (bytes " hold ") (b .number) (b .strokes) (b .hold)
+
 -- The last line of a report that accepts: its fixed bytes, and its numbers.
 pub accepted-length : (jobs states hold : ℕ) → length (acceptedLine jobs states hold) ≡ 32 + (size jobs + (size states + size hold))
 unfolding acceptedLine
-accepted-length jobs states hold =
-    let first = labelled (bytes "accepted strokes ") jobs in
-    let second = labelled (bytes " states ") states in
-    let third = labelled (bytes " hold ") hold in
-    omega (
-      arith,
-      length-append first (second ++ (third ++ bytes "\n")),
-      length-append second (third ++ bytes "\n"),
-      length-append third (bytes "\n"),
-      labelled-length (bytes "accepted strokes ") jobs,
-      labelled-length (bytes " states ") states,
-      labelled-length (bytes " hold ") hold,
-    )
+accepted-length jobs states hold = three-length (bytes "accepted strokes ") (bytes " states ") (bytes " hold ") jobs states hold
 
 -- The line of a refusal: its fixed bytes, its number, and the label and number of its place.
 pub refused-length : (n at : ℕ) → length (refusedLine n at) ≡ 9 + (size n + (length (placeLabel n) + size at))

@@ -8,6 +8,7 @@ use Rattle.text.specs.Bytes.{bytes}
 use Rattle.text.specs.Decimal.{decimal}
 use Rattle.text.specs.Keys.{keyText}
 use Rattle.lines.specs.declared.lines.Stroke.{Stroke}
+use Rattle.lines.specs.declared.lines.BellTotal.{BellTotal}
 
 -- a number after its label
 unfoldable pub labelled : List ℕ → ℕ → List ℕ
@@ -34,6 +35,11 @@ timesText s =
 unfoldable pub strokeLine : Stroke → List ℕ
 unfolding originText timesText
 strokeLine s = originText s ++ timesText s
+
+-- The line of a bell: its number, the number of its strokes, and the longest time that these together hold a driver.
+unfoldable pub bellLine : BellTotal → List ℕ
+unfolding labelled
+bellLine b = labelled (bytes "bell ") (b .number) ++ (labelled (bytes " strokes ") (b .strokes) ++ (labelled (bytes " hold ") (b .hold) ++ bytes "\n"))
 
 -- the lines that f gives for 0 to n - 1, one after another
 unfoldable pub lines : (ℕ → List ℕ) → ℕ → List ℕ

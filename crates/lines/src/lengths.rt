@@ -3,8 +3,9 @@ ghost use mathlib.Core.Path.{_≡_};
 ghost use Prim.Native.Nat.{_≤_};
 ghost use lib.ListN.{length};
 ghost use Rattle.format.specs.Rules.{lowestKey};
-ghost use Rattle.lines.specs.Lines.{strokeLine, acceptedLine, placeLabel, refusedLine, lateLine};
-ghost use Rattle.lines.specs.internal.Longest.{longestStroke, longestLast};
+ghost use Rattle.lines.specs.Lines.{strokeLine, bellLine, acceptedLine, placeLabel, refusedLine, lateLine};
+ghost use Rattle.lines.specs.internal.Longest.{longestStroke, longestBell, longestLast};
+use crate::lines::BellTotal;
 use crate::lines::Stroke;
 use model::refusals::LATE_JOB;
 use model::refusals::LEVEL_FULL;
@@ -13,6 +14,9 @@ use text::key_length;
 
 // `stroke `, ` key `, ` bell `, ` ends `, `..`, ` response `, `..`, ` due ` and the line end.
 const STROKE_BYTES: usize = 44;
+
+// `bell `, ` strokes `, ` hold ` and the line end.
+const BELL_BYTES: usize = 21;
 
 // `accepted strokes `, ` states `, ` hold ` and the line end.
 const ACCEPTED_BYTES: usize = 32;
@@ -31,6 +35,12 @@ pub fn stroke_length(s: Stroke) -> usize
     let ends = digits(s.earliest as u64) + digits(s.latest as u64);
     let responses = digits(s.best as u64) + digits(s.worst as u64);
     STROKE_BYTES + origin + ends + responses + digits(s.deadline as u64)
+}
+
+pub fn bell_length(b: BellTotal) -> usize
+    ensures { λ r. ⌜ (r ≡ length (bellLine b)) × (r ≤ longestBell) ⌝ }
+{
+    BELL_BYTES + digits(b.number as u64) + digits(b.strokes as u64) + digits(b.hold)
 }
 
 pub fn last_length(jobs: usize, states: u64, hold: u64) -> usize

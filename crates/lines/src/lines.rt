@@ -5,7 +5,7 @@ ghost use Rattle.text.specs.Bytes.{bytes};
 ghost use Rattle.text.specs.Keys.{keyText};
 ghost use Rattle.text.specs.internal.Written.{Room, Written};
 ghost use Rattle.format.specs.Rules.{lowestKey};
-ghost use Rattle.lines.specs.Lines.{labelled, ranged, originText, timesText, strokeLine, acceptedLine, placeLabel, refusedLine, lateLine};
+ghost use Rattle.lines.specs.Lines.{labelled, ranged, originText, timesText, strokeLine, bellLine, acceptedLine, placeLabel, refusedLine, lateLine};
 use model::refusals::LATE_JOB;
 use model::refusals::LEVEL_FULL;
 use text::put_bytes;
@@ -22,6 +22,13 @@ pub struct Stroke {
     pub best: u32,
     pub worst: u32,
     pub deadline: u32,
+}
+
+// What the line of a bell shows.
+pub struct BellTotal {
+    pub number: usize,
+    pub strokes: u32,
+    pub hold: u64,
 }
 
 fn put_labelled(buffer: &mut [u8], at: usize, label: &[u8], n: u64) -> usize
@@ -75,6 +82,16 @@ pub fn put_stroke(buffer: &mut [u8], at: usize, s: Stroke) -> usize
 {
     let end = put_origin(buffer, at, s);
     put_times(buffer, end, s)
+}
+
+pub fn put_bell(buffer: &mut [u8], at: usize, b: BellTotal) -> usize
+    requires { ⌜ Room (now buffer) at (bellLine b) ⌝ }
+    ensures { λ r. ⌜ Written (now (buffer .entry)) at (bellLine b) (now (buffer .exit)) r ⌝ }
+{
+    let number_end = put_labelled(buffer, at, b"bell ", b.number as u64);
+    let strokes_end = put_labelled(buffer, number_end, b" strokes ", b.strokes as u64);
+    let total_end = put_labelled(buffer, strokes_end, b" hold ", b.hold);
+    put_bytes(buffer, total_end, b"\n")
 }
 
 pub fn put_last(buffer: &mut [u8], at: usize, jobs: usize, states: u64, hold: u64) -> usize

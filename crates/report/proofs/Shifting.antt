@@ -5,7 +5,6 @@ use mathlib.Core.Bool.{true}
 use mathlib.Core.List.{List, _++_}
 use native.Mathlib.Omega.{arith}
 use lib.ListN.{getD, length, length-map}
-use Rattle.model.specs.Folds.{sum}
 use Rattle.model.specs.Jobs.{Job, job}
 use Rattle.model.specs.States.{Range, empty, earliest, latest}
 use Rattle.model.specs.Exploration.{accepted, refused, late, analysis, capacity}
@@ -21,8 +20,9 @@ use Rattle.format.specs.Shifting.{heard, shiftedBy, Movable}
 use Rattle.format.proofs.Theorems.{sound}
 use Rattle.format.proofs.Shifting.{heard-jobs, heard-keys, shifted-heard, shifted-read}
 use Rattle.checking.specs.Checking.{verdict, resultOf, checkedOf}
-use Rattle.lines.specs.Lines.{strokeLine, lines, acceptedLine}
+use Rattle.lines.specs.Lines.{strokeLine, lines}
 use Rattle.lines.proofs.Series.{lines-ext}
+use Rattle.tally.specs.Tally.{totalsText}
 use Rattle.report.specs.Report.{strokeOf, textFor, textOf, reportedIn, reportedOf}
 
 -- ---- phrases of which the same is heard
@@ -53,7 +53,7 @@ module _ (x y : Phrase) (cores : x .cores ≡ y .cores) (bells : x .bells ≡ y 
       let p =
       lines-ext (λ i. strokeLine (strokeOf x bounds i)) (λ i. strokeLine (strokeOf y bounds i)) (length (jobsOf x)) (λ i h. ap strokeLine (stroke bounds i h))
       ∙ ap (λ (ks : List Job). lines (λ i. strokeLine (strokeOf y bounds i)) (length ks)) js in
-      λ n. p n ++ acceptedLine (length (js n)) c (sum (λ i. job (js n) i .mostExecution) (length (js n)))
+      λ n. p n ++ totalsText (js n) (length (bells n)) c
   text-for (refused r at) = refl
   text-for (late i e f) = refl
 

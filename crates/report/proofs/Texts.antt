@@ -4,16 +4,13 @@ use mathlib.Core.Path.{_≡_, refl, sym, ap, _∙_, subst₂}
 use mathlib.Core.List.{List, [], _++_}
 use native.Mathlib.Omega.{arith}
 use lib.ListN.{getD, length, length-append}
-use Rattle.model.specs.Limits.{mostJobs}
-use Rattle.model.specs.Jobs.{Job, noJob, job}
+use Rattle.model.specs.Jobs.{Job, job}
 use Rattle.model.specs.States.{Range, empty, earliest, latest}
 use Rattle.model.specs.Exploration.{accepted, refused, late}
 use Rattle.model.specs.Exploration.{Verdict}
-use Rattle.model.proofs.Folds.{sum-ext}
-use Rattle.words.proofs.Maps.{getD-map}
 use Rattle.format.specs.Layout.{layout}
 use Rattle.format.specs.Phrase.{Phrase, transposed}
-use Rattle.format.specs.Jobs.{noBell, noNote, note, shiftedKey, struck, jobOf, jobsOf}
+use Rattle.format.specs.Jobs.{noBell, noNote, note, shiftedKey, struck, jobsOf}
 use Rattle.format.specs.Outcome.{Outcome, ok}
 use Rattle.format.specs.Reading.{reading}
 use Rattle.format.specs.Outcome.{refused as unread}
@@ -22,25 +19,24 @@ use Rattle.format.specs.Valid.{ValidNote, Valid}
 use Rattle.format.proofs.Theorems.{sound}
 use Rattle.format.proofs.Jobs.{each-at, strikes, analysable}
 use Rattle.format.proofs.Ranges.{transposition-small, bell-ranges, shift-fits, key-small}
-use Rattle.rows.specs.BellRow.{mostExecutionWord, bellRow}
-use Rattle.rows.specs.NoteRow.{keyWord, deadlineWord, struckWord, noteRowOn}
+use Rattle.rows.specs.NoteRow.{keyWord, deadlineWord, noteRowOn}
 use Rattle.rows.specs.PhraseTable.{shiftWord, phraseTable}
-use Rattle.rows.specs.internal.Handed.{bellWord, noteWord}
-use Rattle.rows.proofs.NoteRow.{row-words}
-use Rattle.rows.proofs.PhraseTable.{few-bells, few-notes, few-listed, struck-below, header-word, bell-word, note-word}
-use Rattle.jobs.proofs.JobRow.{jobs-length}
+use Rattle.rows.specs.internal.Handed.{noteWord}
+use Rattle.rows.proofs.PhraseTable.{header-word, note-word}
 use Rattle.checking.specs.Checking.{verdict, perJob, resultOf, checkedOf}
 use Rattle.checking.specs.declared.Checked.{Checked}
 use Rattle.checking.proofs.PerJob.{per-job-at}
 use Rattle.lines.specs.Lines.{labelled, strokeLine, lines, acceptedLine, refusedLine, lateLine}
-use Rattle.report.specs.Report.{strokeOf, holdOf, textFor, textOf}
-use Rattle.report.specs.internal.Rows.{keyIn, strokeIn, holdIn, SmallKey, Keyed, acceptedText, textIn}
+use Rattle.report.specs.Report.{strokeOf, textFor, textOf}
+use Rattle.strokes.specs.internal.Rows.{keyIn, strokeIn, SmallKey}
+use Rattle.report.specs.internal.Composed.{Composable, acceptedText, textIn}
 use Rattle.lines.proofs.Series.{lines-ext}
+use Rattle.tally.specs.Tally.{bellsText, allHold, totalsText}
+use Rattle.tally.proofs.Tables.{noted, job-is, bell-is, countable, totals-are}
 
 -- what is asked of a result and of the table of its phrase before they are composed, and what comes of it
 pub record Composed (r : Checked) (t text : List ℕ) : Type 0 where
-  pub few : r .jobs ≤ mostJobs
-  pub keyed : Keyed t (r .jobs)
+  pub can : Composable t (r .jobs)
   pub text-is : textIn (r .answer) r t ≡ text
 
 module _ (x : Phrase) (v : Valid x) where
@@ -50,15 +46,9 @@ module _ (x : Phrase) (v : Valid x) where
   abbrev t : List ℕ
   t = phraseTable (ok x)
 
-  few-jobs : length js ≤ mostJobs
-  few-jobs = omega (arith, jobs-length x, few-notes x v)
-
   module _ (i : ℕ) (b : i < length js) where
     here : i < length (x .notes)
-    here = omega (arith, jobs-length x)
-
-    job-is : job js i ≡ jobOf (x .shift) (x .bells) (note x i)
-    job-is = getD-map (jobOf (x .shift) (x .bells)) (x .notes) i noNote noJob here
+    here = noted x v i b
 
     written-is : noteWord t i keyWord ≡ note x i .key
     unfolding noteRowOn
@@ -79,21 +69,9 @@ module _ (x : Phrase) (v : Valid x) where
         let key = key-small (note x i .key) (x .shift) shift (rw (bell .2) at (sounds .1)) in
         (omega (arith, written-is, key), omega (arith, shift-is, transposition-small (x .shift) shift))
 
-    bell-is : noteWord t i struckWord ≡ struck (x .shift) (x .bells) (note x i)
-    bell-is =
-        note-word x v i struckWord here (omega arith)
-        ∙ ap (λ (r : List ℕ). getD r struckWord 0) (row-words (struck (x .shift) (x .bells) (note x i)) (note x i) (few-listed x v i here))
-
     deadline-is : noteWord t i deadlineWord ≡ note x i .deadline
     unfolding noteRowOn
     deadline-is = note-word x v i deadlineWord here (omega arith)
-
-    execution-is : bellWord t (noteWord t i struckWord) mostExecutionWord ≡ job js i .mostExecution
-    unfolding bellRow
-    execution-is =
-        ap (λ (n : ℕ). bellWord t n mostExecutionWord) bell-is
-        ∙ bell-word x v (struck (x .shift) (x .bells) (note x i)) mostExecutionWord (struck-below x v i here) (omega arith)
-        ∙ ap (λ (j : Job). j .mostExecution) (sym job-is)
 
   module _ (bounds : List Range) (c : ℕ) where
     abbrev result : Checked
@@ -101,10 +79,10 @@ module _ (x : Phrase) (v : Valid x) where
 
     stroke-is : (i : ℕ) → i < length js → strokeIn t (result .earliest) (result .latest) (result .best) (result .worst) i ≡ strokeOf x bounds i
     stroke-is i b =
-        let at : (f : ℕ → ℕ) → getD (perJob (length js) f) i 0 ≡ f i = λ f. per-job-at (length js) f few-jobs i b in
+        let at : (f : ℕ → ℕ) → getD (perJob (length js) f) i 0 ≡ f i = λ f. per-job-at (length js) f (countable x v .0) i b in
         let key = key-is i b in
-        let bell = bell-is i b ∙ ap (λ (j : Job). j .bell) (sym (job-is i b)) in
-        let deadline = deadline-is i b ∙ ap (λ (j : Job). j .deadline) (sym (job-is i b)) in
+        let bell = bell-is x v i b in
+        let deadline = deadline-is i b ∙ ap (λ (j : Job). j .deadline) (sym (job-is x v i b)) in
         λ n. record {
           number = i;
           key = key n;
@@ -116,31 +94,28 @@ module _ (x : Phrase) (v : Valid x) where
           deadline = deadline n;
         }
 
-    hold-is : holdIn t (length js) ≡ holdOf x
-    hold-is =
-        sum-ext (λ i. bellWord t (noteWord t i struckWord) mostExecutionWord) (λ i. job js i .mostExecution) (length js) (λ i b. execution-is i b)
-
     accepted-is : acceptedText result t ≡ textFor x (accepted bounds c)
     accepted-is =
         let p =
         lines-ext (λ i. strokeLine (strokeIn t (result .earliest) (result .latest) (result .best) (result .worst) i)) (λ i. strokeLine (strokeOf x bounds i))
         (length js) (λ i b. ap strokeLine (stroke-is i b)) in
-        λ n. p n ++ acceptedLine (length js) c (hold-is n)
+        let q = totals-are x v c in
+        λ n. p n ++ q n
 
-  keyed : Keyed t (length js)
-  keyed i b =
-      let low = analysable x v .keys i b in
-      (omega (arith, key-is i b, low), omega (arith, bell-is i b, struck-below x v i (here i b), few-bells x v), small-key i b)
+  composable : Composable t (length js)
+  composable =
+      let h = countable x v in
+      (h .0, h .1, λ i b. (omega (arith, key-is i b, analysable x v .keys i b), h .2 i b, small-key i b))
 
   composed-for : (w : Verdict) → Composed (resultOf js w) t (textFor x w)
-  composed-for (accepted bounds c) = record { few = few-jobs; keyed = keyed; text-is = accepted-is bounds c }
-  composed-for (refused n at) = record { few = omega arith; keyed = λ i b. absurd (omega arith); text-is = refl }
-  composed-for (late i e f) = record { few = omega arith; keyed = λ j b. absurd (omega arith); text-is = refl }
+  composed-for (accepted bounds c) = record { can = composable; text-is = accepted-is bounds c }
+  composed-for (refused n at) = record { can = (omega arith, countable x v .1, λ i b. absurd (omega arith)); text-is = refl }
+  composed-for (late i e f) = record { can = (omega arith, countable x v .1, λ j b. absurd (omega arith)); text-is = refl }
 
 module _ (file : List ℕ) (bytes : AreBytes file) (words : ℕ) where
   composed-from : (o : Outcome Phrase) → reading file ≡ o → Composed (checkedOf o words) (phraseTable o) (textOf o words)
   composed-from (ok x) e = composed-for x (sound file x bytes e) (verdict (ok x) words)
-  composed-from (unread n at) e = record { few = omega arith; keyed = λ i b. absurd (omega arith); text-is = refl }
+  composed-from (unread n at) e = record { can = (omega arith, omega arith, λ i b. absurd (omega arith)); text-is = refl }
 
   -- A check's result and the table that it leaves can be composed, to the report's text.
   pub composed : (r : Checked) (t : List ℕ) → r ≡ checkedOf (reading file) words → t ≡ phraseTable (reading file)
@@ -152,9 +127,11 @@ module _ (file : List ℕ) (bytes : AreBytes file) (words : ℕ) where
 text-for-long : (x : Phrase) (v : Verdict) → 1 ≤ length (textFor x v)
 unfolding labelled acceptedLine refusedLine lateLine
 text-for-long x (accepted bounds c) =
-    let last = acceptedLine (length (jobsOf x)) c (holdOf x) in
+    let js = jobsOf x in
+    let bells = bellsText js (length (x .bells)) in
+    let last = acceptedLine (length js) c (allHold js (length (x .bells))) in
     let h : 1 ≤ length last = omega arith in
-    omega (arith, h, length-append (lines (λ i. strokeLine (strokeOf x bounds i)) (length (jobsOf x))) last)
+    omega (arith, h, length-append bells last, length-append (lines (λ i. strokeLine (strokeOf x bounds i)) (length js)) (totalsText js (length (x .bells)) c))
 text-for-long x (refused n at) = omega arith
 text-for-long x (late i e f) = omega arith
 

@@ -4,7 +4,6 @@ use mathlib.Core.Bool.{Bool, cond}
 use mathlib.Core.List.{List, _++_}
 use lib.Dec.{leb}
 use lib.ListN.{getD, length, drop}
-use Rattle.model.specs.Folds.{sum}
 use Rattle.model.specs.Refusals.{shortBuffer}
 use Rattle.model.specs.Jobs.{job}
 use Rattle.model.specs.States.{Range, empty, earliest, latest}
@@ -18,8 +17,9 @@ use Rattle.checking.specs.Checking.{verdict, refusing, checkedOf, answerFor}
 use Rattle.checking.specs.declared.Answer.{Answer}
 use Rattle.checking.specs.declared.Answer.the-variants.{Refused}
 use Rattle.checking.specs.declared.Checked.{Checked}
-use Rattle.lines.specs.Lines.{strokeLine, lines, acceptedLine, refusedLine, lateLine}
+use Rattle.lines.specs.Lines.{strokeLine, lines, refusedLine, lateLine}
 use Rattle.lines.specs.declared.lines.Stroke.{Stroke}
+use Rattle.tally.specs.Tally.{totalsText}
 use Rattle.report.specs.declared.Reported.{Reported}
 
 -- ---- the text
@@ -39,13 +39,9 @@ strokeOf x bounds i =
       deadline = job (jobsOf x) i .deadline;
     }
 
--- the longest executions (cb) of all strokes together
-abbrev pub holdOf : Phrase → ℕ
-holdOf x = sum (λ i. job (jobsOf x) i .mostExecution) (length (jobsOf x))
-
--- A line for each stroke and a last one, where all are in time; else the line of the refusal.
+-- A line for each stroke, one for each bell with any stroke, and a last one, where all are in time; else the line of the refusal.
 abbrev pub textFor : Phrase → Verdict → List ℕ
-textFor x (accepted bounds c) = lines (λ i. strokeLine (strokeOf x bounds i)) (length (jobsOf x)) ++ acceptedLine (length (jobsOf x)) c (holdOf x)
+textFor x (accepted bounds c) = lines (λ i. strokeLine (strokeOf x bounds i)) (length (jobsOf x)) ++ totalsText (jobsOf x) (length (x .bells)) c
 textFor x (refused n at) = refusedLine n at
 textFor x (late i e f) = lateLine i e f
 

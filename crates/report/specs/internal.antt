@@ -1,3 +1,3 @@
 -- Vocabulary of internal contracts: no public contract cites it.
 pub mod Longest
-pub mod Rows
+pub mod Composed

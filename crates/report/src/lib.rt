@@ -1,18 +1,17 @@
 // The report of a check: a file is read and checked, and its text written into a lent buffer.
-mod strokes;
+mod accepted;
 
 ghost use mathlib.Core.Path.{_≡_};
 ghost use Prim.Native.Nat.{_≤_};
 ghost use lib.ListN.{length};
-ghost use Rattle.model.specs.Limits.{mostJobs};
 ghost use Rattle.format.specs.Reading.{reading};
 ghost use Rattle.text.specs.internal.Written.{Room, Written};
 ghost use Rattle.checking.specs.Checking.{TableKept, valuesOf, RunsKept};
 ghost use Rattle.report.specs.Report.{textOf, delivered, reportedIn, reportedOf, answerIn};
 ghost use Rattle.report.specs.internal.Longest.{longestText};
-ghost use Rattle.report.specs.internal.Rows.{Keyed, textIn};
-use crate::strokes::accepted_length;
-use crate::strokes::put_accepted;
+ghost use Rattle.report.specs.internal.Composed.{Composable, textIn};
+use crate::accepted::accepted_length;
+use crate::accepted::put_accepted;
 use checker::check_phrase;
 use checking::Answer;
 use checking::Checked;
@@ -32,7 +31,7 @@ pub struct Reported {
 
 // How long the text is.
 fn text_length(phrase: &[u32; PHRASE_WORDS], checked: Checked) -> usize
-    requires { ⌜ (checked .jobs ≤ mostJobs) × Keyed (now phrase) (checked .jobs) ⌝ }
+    requires { ⌜ Composable (now phrase) (checked .jobs) ⌝ }
     ensures { λ r. ⌜ (r ≡ length (textIn (checked .answer) checked (now (phrase .entry)))) × (r ≤ longestText) ⌝ }
 {
     let answer = checked.answer;
@@ -45,7 +44,7 @@ fn text_length(phrase: &[u32; PHRASE_WORDS], checked: Checked) -> usize
 
 // Writes the text from the start of a buffer on.
 fn put_text(text: &mut [u8], phrase: &[u32; PHRASE_WORDS], checked: Checked) -> usize
-    requires { ⌜ (checked .jobs ≤ mostJobs) × Keyed (now phrase) (checked .jobs) × Room (now text) 0 (textIn (checked .answer) checked (now phrase)) ⌝ }
+    requires { ⌜ Composable (now phrase) (checked .jobs) × Room (now text) 0 (textIn (checked .answer) checked (now phrase)) ⌝ }
     ensures { λ r. ⌜ Written (now (text .entry)) 0 (textIn (checked .answer) checked (now (phrase .entry))) (now (text .exit)) r ⌝ }
 {
     let answer = checked.answer;
@@ -58,7 +57,7 @@ fn put_text(text: &mut [u8], phrase: &[u32; PHRASE_WORDS], checked: Checked) -> 
 
 // Writes the text where it has room.
 fn deliver(text: &mut [u8], phrase: &[u32; PHRASE_WORDS], checked: Checked) -> Reported
-    requires { ⌜ (checked .jobs ≤ mostJobs) × Keyed (now phrase) (checked .jobs) ⌝ }
+    requires { ⌜ Composable (now phrase) (checked .jobs) ⌝ }
     ensures { λ r. ⌜ r ≡ reportedIn checked (textIn (checked .answer) checked (now (phrase .entry))) (now (text .entry)) ⌝ }
     ensures { λ _. ⌜ now (text .exit) ≡ delivered (textIn (checked .answer) checked (now (phrase .entry))) (now (text .entry)) ⌝ }
 {

@@ -1,5 +1,5 @@
 //! Writes the stored vectors: FOLDER/stdin with phrase files, each after the words of its table, the bytes of its text buffer and its own length, two bytes
-//! each, and FOLDER/stdout with what the program `report_examples` has to print for them. The first are worked by hand from document 01; the others are drawn,
+//! each, and FOLDER/stdout with what the program `report_examples` has to print for them. The first are worked by hand from the documents; the others are drawn,
 //! and this checker says what is due. Then the same for version 2 of the phrase file, and for version 3.
 //!
 //!     cargo run --offline --manifest-path reference/Cargo.toml --bin vectors crates/report_examples
@@ -7,13 +7,15 @@
 use std::fs;
 use std::path::Path;
 
+use reference::draft::DraftBell;
 use reference::examples::{
     P, P_LOWER_REPORT, P_REPORT, P_RESTED, P_SHIFTED, RestedExample, late_by_a_rest, m6, m8,
     outermost_bells, p_lower, p_with, refused_of_version_2, refused_of_version_3, rested_examples,
 };
 use reference::printed::result;
 use reference::random::{Case, Generator, case, rested_case, shifted_case};
-use reference::report::report;
+use reference::report::{check_and_text, length_without_bells, report};
+use reference::struck::{APART, StruckExample, struck_examples};
 
 const SEED: u64 = 7;
 /// The program reads no more than this.
@@ -115,7 +117,7 @@ fn in_buffers(
 /// What is printed for P's strokes, which end and respond alike wherever they sound.
 fn p_printed(text: &str) -> String {
     format!(
-        "{text}length 141, rest unchanged\naccepted, jobs 2, states 4\n\
+        "{text}length 189, rest unchanged\naccepted, jobs 2, states 4\n\
          earliest 2 4, clear\nlatest 7 6, clear\nbest 2 4, clear\nworst 7 6, clear\n"
     )
 }
@@ -138,23 +140,27 @@ fn by_hand() -> Vec<(Example, String)> {
     add(
         &P,
         16_384,
-        &[10, 140, 1, 0],
-        &[141, 142, MOST_TEXT],
+        // Without its bells' lines the text would have 141 bytes.
+        &[10, 188, 141, 140, 1, 0],
+        &[189, 190, MOST_TEXT],
         &p_printed(P_REPORT),
     );
     let printed = "\
 stroke 0 key C0 bell 0 ends 2..4 response 2..4 due 3600000
 stroke 1 key C#0 bell 1 ends 3..5 response 3..5 due 3600000
 stroke 2 key D0 bell 2 ends 5..6 response 2..3 due 3600000
+bell 0 strokes 1 hold 4
+bell 1 strokes 1 hold 1
+bell 2 strokes 1 hold 2
 accepted strokes 3 states 5 hold 7
-length 213, rest unchanged
+length 285, rest unchanged
 accepted, jobs 3, states 5
 earliest 2 3 5, clear
 latest 4 5 6, clear
 best 2 3 2, clear
 worst 4 5 3, clear
 ";
-    add(&m6(), 16_384, &[212, 0], &[213], printed);
+    add(&m6(), 16_384, &[284, 213, 0], &[285], printed);
     let (printed, _) = refused_printed(4, 5);
     add(&[1, 0, 0, 0, 1, 0], 0, &[14, 0], &[15, 16], &printed);
     let printed = format!(
@@ -169,43 +175,46 @@ worst 4 5 3, clear
         "accepted strokes 0 states 1 hold 0\nlength 35, rest unchanged\naccepted, jobs 0, states 1\n{NOTHING}"
     );
     add(&m8(), 8, &[34, 0], &[35, 36], &printed);
+    all.extend(struck(1));
     all
 }
 
 fn by_hand_of_version_2() -> Vec<(Example, String)> {
     let printed = p_printed(P_REPORT);
-    let mut all = in_buffers(&P_SHIFTED, 16_384, &[140], &[141], &printed);
+    let mut all = in_buffers(&P_SHIFTED, 16_384, &[188], &[189], &printed);
     let printed = p_printed(P_LOWER_REPORT);
-    all.extend(in_buffers(&p_lower(), 32, &[140], &[141], &printed));
+    all.extend(in_buffers(&p_lower(), 32, &[188], &[189], &printed));
 
     // Written above 119 or below 12, and shifted to the highest and the lowest bell.
-    for (key, shift, sounds) in [
-        (143, -24, "B8 bell 1"),
-        (120, -1, "B8 bell 1"),
-        (95, 24, "B8 bell 1"),
-        (36, -24, "C0 bell 0"),
-        (11, 1, "C0 bell 0"),
-        (0, 12, "C0 bell 0"),
+    for (key, shift, (name, bell)) in [
+        (143, -24, ("B8", 1)),
+        (120, -1, ("B8", 1)),
+        (95, 24, ("B8", 1)),
+        (36, -24, ("C0", 0)),
+        (11, 1, ("C0", 0)),
+        (0, 12, ("C0", 0)),
     ] {
         let printed = format!(
-            "stroke 0 key {sounds} ends 1..1 response 1..1 due 3600000\naccepted strokes 1 states 2 hold 1\n\
-             length 94, rest unchanged\naccepted, jobs 1, states 2\n\
+            "stroke 0 key {name} bell {bell} ends 1..1 response 1..1 due 3600000\n\
+             bell {bell} strokes 1 hold 1\naccepted strokes 1 states 2 hold 1\n\
+             length 118, rest unchanged\naccepted, jobs 1, states 2\n\
              earliest 1, clear\nlatest 1, clear\nbest 1, clear\nworst 1, clear\n"
         );
         let file = outermost_bells(key, shift);
-        all.extend(in_buffers(&file, 24, &[], &[94], &printed));
+        all.extend(in_buffers(&file, 24, &[], &[118], &printed));
     }
 
     for (file, number, place) in refused_of_version_2() {
         let (printed, length) = refused_printed(number, place);
         all.extend(in_buffers(&file, 0, &[], &[length], &printed));
     }
+    all.extend(struck(2));
     all
 }
 
 fn by_hand_of_version_3() -> Vec<(Example, String)> {
     let printed = p_printed(P_REPORT);
-    let mut all = in_buffers(&P_RESTED, 32, &[140], &[141], &printed);
+    let mut all = in_buffers(&P_RESTED, 32, &[188], &[189], &printed);
     for example in rested_examples() {
         let (printed, length) = rested_printed(&example);
         let file = example.draft.bytes();
@@ -238,7 +247,50 @@ fn by_hand_of_version_3() -> Vec<(Example, String)> {
         let (printed, length) = refused_printed(number, place);
         all.extend(in_buffers(&file, 0, &[], &[length], &printed));
     }
+    all.extend(struck(3));
     all
+}
+
+/// The phrases of this version made for the bells' lines: in a buffer as long as the text, one byte shorter, and, where there
+/// are such lines, one with room for all others.
+fn struck(version: u8) -> Vec<(Example, String)> {
+    let mut all = Vec::new();
+    for example in struck_examples() {
+        if example.draft.version != version {
+            continue;
+        }
+        let length = example.text.len();
+        let mut short = vec![length - 1];
+        let without = length_without_bells(example.text);
+        short.extend((without < length).then_some(without));
+        let file = example.draft.bytes();
+        let printed = struck_printed(&example);
+        all.extend(in_buffers(&file, MOST_WORDS, &short, &[length], &printed));
+    }
+    all
+}
+
+/// What is printed for such a phrase: its strokes start when they are called, and there is one state a level.
+fn struck_printed(example: &StruckExample) -> String {
+    let row = |name, time: fn(u32, &DraftBell) -> u32| {
+        let times = (0..).zip(&example.struck).map(|(number, &bell)| {
+            let bell = &example.draft.bells[bell];
+            format!(" {}", time(APART * number, bell))
+        });
+        format!("{name}{}, clear\n", times.collect::<String>())
+    };
+    let (text, length) = (example.text, example.text.len());
+    let strokes = example.struck.len();
+    let states = strokes + 1;
+    [
+        format!("{text}length {length}, rest unchanged\n"),
+        format!("accepted, jobs {strokes}, states {states}\n"),
+        row("earliest", |call, bell| call + u32::from(bell.ca)),
+        row("latest", |call, bell| call + u32::from(bell.cb)),
+        row("best", |_, bell| bell.ca.into()),
+        row("worst", |_, bell| bell.cb.into()),
+    ]
+    .concat()
 }
 
 /// What is printed for an example by what was worked out for it, and the length of its text. All its strokes are called from 0
@@ -255,6 +307,13 @@ fn rested_printed(example: &RestedExample) -> (String, usize) {
         text += &format!(
             "stroke {number} key {name} bell {bell} ends {low}..{high} response {low}..{high} due {due}\n"
         );
+    }
+    for (key, (number, bell)) in (12..).zip(draft.bells.iter().enumerate()) {
+        let count = draft.notes.iter().filter(|note| note.key == key).count();
+        if count > 0 {
+            let hold = count * usize::from(bell.cb);
+            text += &format!("bell {number} strokes {count} hold {hold}\n");
+        }
     }
     let (strokes, states) = (example.ends.len(), example.states);
     text += &format!("accepted strokes {strokes} states {states} hold {hold}\n");
@@ -288,14 +347,16 @@ fn printed(example: &Example) -> String {
     format!("{text}length {length}, rest unchanged\n{}", result(&check))
 }
 
-/// As long as the text in half of the cases; else one byte shorter, some bytes longer, or all that there is.
+/// As long as the text in half of the cases; else one byte shorter, as long as it is without its bells' lines, some bytes
+/// longer, or all that there is.
 fn text_bytes(random: &mut Generator, file: &[u8], table_words: usize) -> usize {
-    let (_, length) = report(file, table_words, &mut [0; MOST_TEXT]);
-    match random.below(6) {
-        0 => length - 1,
-        1 => length + random.below(100) as usize,
-        2 => MOST_TEXT,
-        _ => length,
+    let (_, text) = check_and_text(file, table_words);
+    match random.below(8) {
+        0 => text.len() - 1,
+        1 => length_without_bells(&text),
+        2 => text.len() + random.below(100) as usize,
+        3 => MOST_TEXT,
+        _ => text.len(),
     }
 }
 

@@ -1,11 +1,11 @@
--- Lines of document 01, and of what they leave open, computed. Assumes nothing.
+-- Lines of documents 01 and 02, and of what they leave open, computed. Assumes nothing.
 use Prim.Native.Nat.{ℕ, zero, suc, _+_}
 use mathlib.Core.Path.{_≡_, refl}
 use mathlib.Core.List.{List, [], _∷_, _++_}
 use Rattle.text.specs.Bytes.{bytes}
 use Rattle.text.specs.Decimal.{decimal, decimalWithin}
 use Rattle.text.specs.Keys.{keyText}
-use Rattle.lines.specs.Lines.{labelled, ranged, originText, timesText, strokeLine, lines, acceptedLine, refusedLine, lateLine}
+use Rattle.lines.specs.Lines.{labelled, ranged, originText, timesText, strokeLine, bellLine, lines, acceptedLine, refusedLine, lateLine}
 use Rattle.lines.specs.declared.lines.Stroke.{Stroke}
 
 -- a line that the definitions give, and the line that is due
@@ -36,6 +36,8 @@ examples =
       given = strokeLine (stroke 63 119 95 3599999 3600000 0 10 3600000);
       due = bytes "stroke 63 key B8 bell 95 ends 3599999..3600000 response 0..10 due 3600000\n";
     }
+    ∷ record { given = bellLine (record { number = 3; strokes = 4; hold = 88 }); due = bytes "bell 3 strokes 4 hold 88\n" }
+    ∷ record { given = bellLine (record { number = 95; strokes = 64; hold = 320000 }); due = bytes "bell 95 strokes 64 hold 320000\n" }
     ∷ record { given = keyText 12; due = bytes "C0" }
     ∷ record { given = keyText 61; due = bytes "C#4" }
     ∷ record { given = keyText 70; due = bytes "A#4" }
@@ -53,5 +55,5 @@ due [] = []
 due (x ∷ xs) = x .due ∷ due xs
 
 pub as-due : given examples ≡ due examples
-unfolding decimal decimalWithin keyText labelled ranged originText timesText strokeLine lines acceptedLine refusedLine lateLine
+unfolding decimal decimalWithin keyText labelled ranged originText timesText strokeLine bellLine lines acceptedLine refusedLine lateLine
 as-due = refl

@@ -5,6 +5,10 @@ use Prim.Native.Nat.{ℕ}
 abbrev pub longestStroke : ℕ
 longestStroke = 195
 
+-- a bell's line: 21 fixed bytes and three numbers
+abbrev pub longestBell : ℕ
+longestBell = 81
+
 -- a last or only line: of these the one that accepts is the longest, with 32 fixed bytes and three numbers
 abbrev pub longestLast : ℕ
 longestLast = 92

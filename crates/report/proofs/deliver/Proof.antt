@@ -3,7 +3,7 @@ use mathlib.Core.Path.{_∙_}
 use native.Mathlib.Nat.{zero-add}
 use native.Mathlib.Omega.{arith}
 use denote.Ref.{now}
-use Rattle.report.specs.internal.Rows.{textIn}
+use Rattle.report.specs.internal.Composed.{textIn}
 use Rattle.report.proofs.Delivery.{short-left, short-reported, whole-placed, whole-reported}
 use borrow.Author.Needs.{needs}
 use Rattle.report.proofs.deliver.Statement.{statement}

@@ -9,19 +9,19 @@ enum-told c = search needs
 put-accepted-requires : tie.Need-put-accepted-requires
 put-accepted-requires c κs =
     let a = c .before .before .before .before in
-    (a .pre .0, a .pre .1, rw (c .before .enum-told .given .1) at (a .pre .2))
+    (a .pre .0, rw (c .before .enum-told .given .1) at (a .pre .1))
 
 enum-known-answer : tie.Need-enum-known-answer
 enum-known-answer c = search needs
 
 put-refused-requires : tie.Need-put-refused-requires
-put-refused-requires c κs = rw (c .before .before .answer .given .1) at (c .before .before .before .before .before .pre .2)
+put-refused-requires c κs = rw (c .before .before .answer .given .1) at (c .before .before .before .before .before .pre .1)
 
 enum-known-answer-2 : tie.Need-enum-known-answer-2
 enum-known-answer-2 c = search needs
 
 put-late-requires : tie.Need-put-late-requires
-put-late-requires c κs = rw (c .before .before .answer2 .given .1) at (c .before .before .before .before .before .pre .2)
+put-late-requires c κs = rw (c .before .before .answer2 .given .1) at (c .before .before .before .before .before .pre .1)
 
 same-length : tie.Need-same-length
 same-length c = search needs

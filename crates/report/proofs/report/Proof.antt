@@ -37,7 +37,7 @@ check-phrase-requires : tie.Need-check-phrase-requires
 check-phrase-requires c κs = search needs
 
 deliver-requires : tie.Need-deliver-requires
-deliver-requires c κs = let h = can (c .before .before .before .before) in (h .few, h .keyed)
+deliver-requires c κs = can (c .before .before .before .before) .can
 
 same-length : tie.Need-same-length
 same-length c = search needs

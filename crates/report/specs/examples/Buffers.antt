@@ -15,21 +15,43 @@ use Rattle.checking.specs.Checking.{perJob, Values, valuesOf}
 use Rattle.checking.specs.examples.Checks.{versionNine, latePhrase, calledLater, exchanged, noStroke, Case, lent, dues, given, alone, both, values}
 use Rattle.checking.specs.declared.Answer.the-variants.{Accepted, Refused, Late}
 use Rattle.checking.specs.declared.Checked.{Checked}
-use Rattle.lines.specs.Lines.{strokeLine, lines, acceptedLine, refusedLine, lateLine}
+use Rattle.lines.specs.Lines.{strokeLine, bellLine, lines, acceptedLine, refusedLine, lateLine}
 use Rattle.report.specs.Report.{textOf, delivered, lengthIn, reportedIn, reportedOf, answerIn}
 use Rattle.report.specs.declared.Reported.{Reported}
 
 -- ---- texts
 
--- P's text: 141 bytes
+-- P's text: 189 bytes
 abbrev textP : List ℕ
 textP =
-    bytes "stroke 0 key C4 bell 0 ends 2..7 response 2..7 due 7\nstroke 1 key D5 bell 1 ends 4..6 response 4..6 due 6\naccepted strokes 2 states 4 hold 6\n"
+    bytes "stroke 0 key C4 bell 0 ends 2..7 response 2..7 due 7\nstroke 1 key D5 bell 1 ends 4..6 response 4..6 due 6\nbell 0 strokes 1 hold 2\nbell 1 strokes 1 hold 4\naccepted strokes 2 states 4 hold 6\n"
 
 -- P with bell 0 holding for 2 or 3, and due times of 8 and 9. Level 0: twc 0; job 0 ends 2..3: {0} [2,3]; job 1, thigh 5, ends 4..4: {1} [4,4]. Level 1:
 -- {0}: twc 3; job 1 ends 6..7: [6,7]; {1}: twc 5; job 0 ends 6..8: [6,8]. They merge.
 abbrev longerHold : List ℕ
 longerHold = set (set (set fileP 12 0x03) 35 0x08) 49 0x09
+
+-- Four bells, of keys 60, 62, 63 and 64, which hold for 1..2, 1..9, 1..9 and 3..4; strokes on bells 3, 0 and 3, called at 0, 10 and 20 and due at 10, 20 and
+-- 30. Each is done before the next is called: they end at 3..4, 11..12 and 23..24, and every level has one state.
+abbrev fallingBells : List ℕ
+fallingBells =
+    0x01
+    ∷ 0x00 ∷ 0x00 ∷ 0x00 ∷ 0x49
+    ∷ 0x01
+    ∷ 0x04
+    ∷ 0x3C ∷ 0x00 ∷ 0x00 ∷ 0x01 ∷ 0x00 ∷ 0x02 ∷ 0x01
+    ∷ 0x3E ∷ 0x00 ∷ 0x00 ∷ 0x01 ∷ 0x00 ∷ 0x09 ∷ 0x01
+    ∷ 0x3F ∷ 0x00 ∷ 0x00 ∷ 0x01 ∷ 0x00 ∷ 0x09 ∷ 0x01
+    ∷ 0x40 ∷ 0x00 ∷ 0x00 ∷ 0x03 ∷ 0x00 ∷ 0x04 ∷ 0x01
+    ∷ 0x03
+    ∷ 0x0D ∷ 0x40 ∷ 0x00 ∷ 0x00 ∷ 0x00 ∷ 0x00 ∷ 0x00 ∷ 0x00 ∷ 0x00 ∷ 0x00 ∷ 0x00 ∷ 0x00 ∷ 0x00 ∷ 0x0A
+    ∷ 0x0D ∷ 0x3C ∷ 0x00 ∷ 0x00 ∷ 0x00 ∷ 0x0A ∷ 0x00 ∷ 0x00 ∷ 0x00 ∷ 0x0A ∷ 0x00 ∷ 0x00 ∷ 0x00 ∷ 0x14
+    ∷ 0x0D ∷ 0x40 ∷ 0x00 ∷ 0x00 ∷ 0x00 ∷ 0x14 ∷ 0x00 ∷ 0x00 ∷ 0x00 ∷ 0x14 ∷ 0x00 ∷ 0x00 ∷ 0x00 ∷ 0x1E
+    ∷ []
+
+abbrev strokesOfThem : List ℕ
+strokesOfThem =
+    bytes "stroke 0 key E4 bell 3 ends 3..4 response 3..4 due 10\nstroke 1 key C4 bell 0 ends 11..12 response 1..2 due 20\nstroke 2 key E4 bell 3 ends 23..24 response 3..4 due 30\n"
 
 abbrev pub texts : List (Case (List ℕ))
 texts =
@@ -39,21 +61,24 @@ texts =
     ∷ lent versionNine 32 (bytes "refused 1 at 0\n")
     -- stroke 0 is called from 1 on
     ∷ lent calledLater 32
-    (bytes "stroke 0 key C4 bell 0 ends 6..7 response 5..6 due 7\nstroke 1 key D5 bell 1 ends 4..4 response 4..4 due 6\naccepted strokes 2 states 3 hold 6\n")
+    (bytes "stroke 0 key C4 bell 0 ends 6..7 response 5..6 due 7\nstroke 1 key D5 bell 1 ends 4..4 response 4..4 due 6\nbell 0 strokes 1 hold 2\nbell 1 strokes 1 hold 4\naccepted strokes 2 states 3 hold 6\n")
     -- the last line adds up the longest holds
     ∷ lent longerHold 32
-    (bytes "stroke 0 key C4 bell 0 ends 2..8 response 2..8 due 8\nstroke 1 key D5 bell 1 ends 4..7 response 4..7 due 9\naccepted strokes 2 states 4 hold 7\n")
+    (bytes "stroke 0 key C4 bell 0 ends 2..8 response 2..8 due 8\nstroke 1 key D5 bell 1 ends 4..7 response 4..7 due 9\nbell 0 strokes 1 hold 3\nbell 1 strokes 1 hold 4\naccepted strokes 2 states 4 hold 7\n")
     -- S: keys 64 and 78 as written (E4 and F#5), with a shift of -4: heard as those of P
     ∷ lent fileS 32 textP
     -- keys 60 and 46 (C4 and A#2), with a shift of 14
     ∷ lent exchanged 32
-    (bytes "stroke 0 key D5 bell 1 ends 6..9 response 6..9 due 9\nstroke 1 key C4 bell 0 ends 2..2 response 2..2 due 6\naccepted strokes 2 states 3 hold 6\n")
+    (bytes "stroke 0 key D5 bell 1 ends 6..9 response 6..9 due 9\nstroke 1 key C4 bell 0 ends 2..2 response 2..2 due 6\nbell 0 strokes 1 hold 2\nbell 1 strokes 1 hold 4\naccepted strokes 2 states 3 hold 6\n")
     ∷ lent (set fileS 6 0x19) 32 (bytes "refused 19 at 6\n")
+    -- bells rising, and none for those without strokes
+    ∷ lent fallingBells 32 (strokesOfThem ++ bytes "bell 0 strokes 1 hold 2\nbell 3 strokes 2 hold 8\naccepted strokes 3 states 4 hold 10\n")
+    -- bells, and no stroke
     ∷ lent noStroke 8 (bytes "accepted strokes 0 states 1 hold 0\n")
     ∷ []
 
 pub as-written : given textOf texts ≡ dues texts
-unfolding reading analysis strokeLine lines acceptedLine refusedLine lateLine sum decimalWithin
+unfolding reading analysis strokeLine bellLine lines acceptedLine refusedLine lateLine sum decimalWithin
 as-written = refl
 
 -- ---- buffers
@@ -102,9 +127,11 @@ accepting = record { answer = Accepted; jobs = 2; earliest = both 2 4; latest = 
 
 abbrev pub reports : List Report
 reports =
-    report fileP 32 143 (reported accepting 141) (values 0 0 0 0) (textP ++ 7 ∷ 7 ∷ [])
-    ∷ report fileP 32 141 (reported accepting 141) (values 0 0 0 0) textP
-    ∷ short fileP 32 140
+    report fileP 32 191 (reported accepting 189) (values 0 0 0 0) (textP ++ 7 ∷ 7 ∷ [])
+    ∷ report fileP 32 189 (reported accepting 189) (values 0 0 0 0) textP
+    ∷ short fileP 32 188
+    -- room for the strokes' lines and the last, but not for those of the bells
+    ∷ short fileP 32 141
     ∷ short fileP 32 10
     ∷ short fileP 32 0
     -- the line of a refusal, and the same in a buffer a byte shorter
@@ -117,14 +144,14 @@ reports =
     ∷ []
 
 pub as-reported : map (λ (x : Report). reportedOf (reading (x .file)) (x .words) (replicate (x .room) 7)) reports ≡ map (λ (x : Report). x .result) reports
-unfolding reading analysis perJob strokeLine lines acceptedLine refusedLine lateLine sum decimalWithin
+unfolding reading analysis perJob strokeLine bellLine lines acceptedLine refusedLine lateLine sum decimalWithin
 as-reported = refl
 
 pub as-valued : map (λ (x : Report). valuesOf (answerIn (reading (x .file)) (x .words) (replicate (x .room) 7))) reports ≡ map (λ (x : Report). x .values) reports
-unfolding reading analysis strokeLine lines acceptedLine refusedLine lateLine sum decimalWithin
+unfolding reading analysis strokeLine bellLine lines acceptedLine refusedLine lateLine sum decimalWithin
 as-valued = refl
 
 pub as-left :
     map (λ (x : Report). delivered (textOf (reading (x .file)) (x .words)) (replicate (x .room) 7)) reports ≡ map (λ (x : Report). x .left) reports
-unfolding reading analysis strokeLine lines acceptedLine refusedLine lateLine sum decimalWithin
+unfolding reading analysis strokeLine bellLine lines acceptedLine refusedLine lateLine sum decimalWithin
 as-left = refl

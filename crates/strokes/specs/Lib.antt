@@ -1,0 +1,2 @@
+-- The lines of strokes.
+pub mod internal

@@ -1,0 +1,3 @@
+-- Vocabulary of internal contracts: no public contract cites it.
+pub mod Counted
+pub mod Longest
