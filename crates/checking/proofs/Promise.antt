@@ -18,9 +18,9 @@ use Rattle.format.specs.Outcome.{refused as unread}
 use Rattle.format.specs.Bytes.{AreBytes}
 use Rattle.format.specs.internal.Analysable.{Analysable}
 use Rattle.format.proofs.Theorems.{sound}
-use Rattle.format.proofs.Jobs.{analysable}
+use Rattle.format.proofs.Jobs.{jobs-length, analysable}
 use Rattle.rows.proofs.PhraseTable.{few-notes}
-use Rattle.jobs.proofs.JobRow.{jobs-length, timed}
+use Rattle.jobs.proofs.JobRow.{timed}
 use Rattle.checking.specs.Checking.{capacityFor, verdict, resultOf, jobsRead, checkedOf, answerFor, boundsOf, Playable, RunsKept}
 use Rattle.checking.specs.declared.Answer.the-variants.{Accepted}
 use Rattle.checking.specs.declared.Checked.{Checked}

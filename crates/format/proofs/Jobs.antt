@@ -94,12 +94,20 @@ few-near (some x) = omega arith
 
 -- ---- the jobs
 
+-- A phrase has a job for each note.
+pub jobs-length : (x : Phrase) → length (jobsOf x) ≡ length (x .notes)
+jobs-length x = length-map (x .notes) (jobOf (x .shift) (x .bells))
+
+-- It is the note's.
+pub job-is : (x : Phrase) (i : ℕ) → i < length (jobsOf x) → job (jobsOf x) i ≡ jobOf (x .shift) (x .bells) (note x i)
+job-is x i h = getD-map (jobOf (x .shift) (x .bells)) (x .notes) i noNote _ (omega (arith, jobs-length x))
+
 module _ (l : Layout) (x : Phrase) (v : ValidBy l x) (i : ℕ) (h : i < length (jobsOf x)) where
   inside : i < length (x .notes)
-  inside = omega (arith, length-map (x .notes) (jobOf (x .shift) (x .bells)))
+  inside = omega (arith, jobs-length x)
 
   is-job : job (jobsOf x) i ≡ jobOf (x .shift) (x .bells) (note x i)
-  is-job = getD-map (jobOf (x .shift) (x .bells)) (x .notes) i noNote _ inside
+  is-job = job-is x i h
 
   rule : ValidNote (x .shift) (x .bells) (take i (x .notes)) (note x i)
   rule = each-at (ValidNote (x .shift) (x .bells)) [] (x .notes) (v .notes) i noNote inside
@@ -148,7 +156,7 @@ analysable x valid =
     let v = valid .fields in
     record {
       cores = v .cores;
-      jobCount = omega (arith, v .noteCount, length-map (x .notes) (jobOf (x .shift) (x .bells)));
+      jobCount = omega (arith, v .noteCount, jobs-length x);
       ranges = ranges l x v;
       earlier = predecessor-earlier (jobsOf x) (x .cores) (well-formed l x v);
       few = few l x v;

@@ -6,7 +6,7 @@ use mathlib.Core.Bool.{Bool, true, false, _&&_, _||_}
 use mathlib.Core.List.{List, [], _∷_, _++_}
 use native.Mathlib.Omega.{arith}
 use lib.Dec.{leb, ltb, eqb}
-use lib.ListN.{length, getD, drop, length-map}
+use lib.ListN.{length, getD, drop}
 use borrow.Author.Tests.{leb-true, leb-false, le-leb, lt-leb}
 use Rattle.model.specs.Limits.{mostCores}
 use Rattle.model.specs.Refusals.{wrongVersion, wrongCount, wrongEnd, wrongCores, wrongBellCount, wrongBell, doubledKey, wrongShift}
@@ -19,10 +19,10 @@ use Rattle.format.specs.Rules.{lowestKey, highestKey, isTransposition, i
 use Rattle.format.specs.Reading.{bellIn, bellRecord, bellsFrom, shiftIn, bellsIn, notesIn, readingBy, reading}
 use Rattle.format.specs.Valid.{Each, ValidBell, Valid}
 use Rattle.format.specs.Fits.{All}
-use Rattle.format.specs.Jobs.{noBell, noNote, note, struck, jobOf, jobsOf}
+use Rattle.format.specs.Jobs.{noBell, note, struck, jobsOf}
 use Rattle.format.proofs.Passed.{required, bound, same-then, same-require}
 use Rattle.format.proofs.Ranges.{bell-ranges}
-use Rattle.format.proofs.Jobs.{getD-map}
+use Rattle.format.proofs.Jobs.{job-is}
 
 -- ---- bells as they were: records of seven bytes, and no rest
 
@@ -272,5 +272,5 @@ no-rest (b ∷ bs) f (suc i) = no-rest bs (f .1) i
 -- A phrase whose bells have no rest has jobs without one; so its runs and its analysis are those of before (model/proofs/Unrested).
 pub jobs-unrested : (x : Phrase) → All Unrested (x .bells) → (i : ℕ) → i < length (jobsOf x) → job (jobsOf x) i .rest ≡ 0
 jobs-unrested x f i h =
-    ap (λ (j : Job). j .rest) (getD-map (jobOf (x .shift) (x .bells)) (x .notes) i noNote _ (omega (arith, length-map (x .notes) (jobOf (x .shift) (x .bells)))))
+    ap (λ (j : Job). j .rest) (job-is x i h)
     ∙ no-rest (x .bells) f (struck (x .shift) (x .bells) (note x i))

@@ -5,7 +5,7 @@ use mathlib.Core.Bool.{true}
 use mathlib.Core.List.{List, [], _∷_, _++_}
 use native.Mathlib.Nat.{not-suc-le-zero, le-of-suc-le-suc, zero-add}
 use native.Mathlib.Omega.{arith}
-use lib.ListN.{getD, length, take, drop, length-append, length-drop, length-map, List·getD-append}
+use lib.ListN.{getD, length, take, drop, length-append, length-drop, List·getD-append}
 use lib.Seq.{length-take-le, getD-take, getD-drop, getD-append-add, ext-getD}
 use Rattle.model.specs.Limits.{mostJobs, longestExecution, longestRest, latestTime}
 use Rattle.model.specs.Folds.{member}
@@ -17,9 +17,10 @@ use Rattle.words.specs.Padded.{padded}
 use Rattle.words.proofs.Tabulate.{length-tabulate, getD-tabulate, tabulate-is}
 use Rattle.words.proofs.Padded.{padded-length}
 use Rattle.format.specs.Phrase.{Phrase}
-use Rattle.format.specs.Jobs.{jobOf, jobsOf}
+use Rattle.format.specs.Jobs.{jobsOf}
 use Rattle.format.specs.Fits.{All}
 use Rattle.format.specs.internal.Analysable.{mostPredecessors, Analysable}
+use Rattle.format.proofs.Jobs.{jobs-length}
 use Rattle.rows.proofs.Records.{Wide, records-length, records-word}
 use Rattle.jobs.specs.internal.JobRow.{rowWords, earliestReleaseAt, latestReleaseAt, leastExecutionAt, mostExecutionAt, deadlineAt, priorityAt, predecessorCountAt, predecessorsAt, restAt, jobBellAt, jobListedAt, jobRow, jobRows, word, jobAt, jobsOfRows, Rows, Setting}
 use Rattle.jobs.specs.internal.JobTable.{jobTable}
@@ -177,10 +178,6 @@ module _ (js : List Job) (few : (i : ℕ) → i < length js → length (predeces
       }
 
 -- ---- the rows of a phrase's jobs
-
--- A phrase has a job for each note.
-pub jobs-length : (x : Phrase) → length (jobsOf x) ≡ length (x .notes)
-jobs-length x = length-map (x .notes) (jobOf (x .shift) (x .bells))
 
 -- The times of the jobs are in their ranges.
 pub timed : (x : Phrase) → Analysable x → TimedUpTo latestTime (jobsOf x)

@@ -10,13 +10,13 @@ use Rattle.format.specs.Phrase.{Phrase}
 use Rattle.format.specs.Jobs.{jobsOf}
 use Rattle.format.specs.Valid.{Valid}
 use Rattle.format.specs.internal.Analysable.{Analysable}
-use Rattle.format.proofs.Jobs.{analysable}
+use Rattle.format.proofs.Jobs.{jobs-length, analysable}
 use Rattle.rows.specs.PhraseTable.{coresWord, noteCountWord, phraseTable, phraseOf}
 use Rattle.rows.specs.internal.Handed.{HandedOn}
 use Rattle.rows.proofs.PhraseTable.{few-notes, header-word, phrase-of}
 use Rattle.jobs.specs.internal.JobRow.{jobsOfRows, Setting}
 use Rattle.jobs.specs.internal.JobTable.{jobTable}
-use Rattle.jobs.proofs.JobRow.{jobs-length, phrase-jobs, setting}
+use Rattle.jobs.proofs.JobRow.{phrase-jobs, setting}
 
 module _ (t : List ℕ) (h : HandedOn t) (rows before : List ℕ) (made : rows ≡ jobTable (phraseOf t) before) (m k : ℕ)
     (cores : m ≡ getD t coresWord 0) (count : k ≡ getD t noteCountWord 0) where

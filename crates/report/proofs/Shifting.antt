@@ -4,7 +4,7 @@ use mathlib.Core.Path.{_≡_, refl, sym, ap, _∙_}
 use mathlib.Core.Bool.{true}
 use mathlib.Core.List.{List, _++_}
 use native.Mathlib.Omega.{arith}
-use lib.ListN.{getD, length, length-map}
+use lib.ListN.{getD, length}
 use Rattle.model.specs.Jobs.{Job, job}
 use Rattle.model.specs.States.{Range, empty, earliest, latest}
 use Rattle.model.specs.Exploration.{accepted, refused, late, analysis, capacity}
@@ -14,10 +14,11 @@ use Rattle.format.specs.Outcome.{Outcome, ok}
 use Rattle.format.specs.Phrase.{Phrase}
 use Rattle.format.specs.Rules.{isTransposition}
 use Rattle.format.specs.Reading.{reading}
-use Rattle.format.specs.Jobs.{shiftedKey, jobOf, jobsOf}
+use Rattle.format.specs.Jobs.{shiftedKey, jobsOf}
 use Rattle.format.specs.Writing.{written}
 use Rattle.format.specs.Shifting.{heard, shiftedBy, Movable}
 use Rattle.format.proofs.Theorems.{sound}
+use Rattle.format.proofs.Jobs.{jobs-length}
 use Rattle.format.proofs.Shifting.{heard-jobs, heard-keys, shifted-heard, shifted-read}
 use Rattle.checking.specs.Checking.{verdict, resultOf, checkedOf}
 use Rattle.lines.specs.Lines.{strokeLine, lines}
@@ -32,7 +33,7 @@ module _ (x y : Phrase) (cores : x .cores ≡ y .cores) (bells : x .bells ≡ y 
   js = heard-jobs x y same bells
 
   key : (i : ℕ) → i < length (jobsOf x) → shiftedKey x i ≡ shiftedKey y i
-  key i h = heard-keys x y same i (omega (arith, length-map (x .notes) (jobOf (x .shift) (x .bells))))
+  key i h = heard-keys x y same i (omega (arith, jobs-length x))
 
   stroke : (bounds : List Range) (i : ℕ) → i < length (jobsOf x) → strokeOf x bounds i ≡ strokeOf y bounds i
   stroke bounds i h =

@@ -17,7 +17,7 @@ use Rattle.format.specs.Outcome.{refused as unread}
 use Rattle.format.specs.Bytes.{AreBytes}
 use Rattle.format.specs.Valid.{ValidNote, Valid}
 use Rattle.format.proofs.Theorems.{sound}
-use Rattle.format.proofs.Jobs.{each-at, strikes, analysable}
+use Rattle.format.proofs.Jobs.{each-at, strikes, job-is, analysable}
 use Rattle.format.proofs.Ranges.{transposition-small, bell-ranges, shift-fits, key-small}
 use Rattle.rows.specs.NoteRow.{keyWord, deadlineWord, noteRowOn}
 use Rattle.rows.specs.PhraseTable.{shiftWord, phraseTable}
@@ -32,7 +32,7 @@ use Rattle.strokes.specs.internal.Rows.{keyIn, strokeIn, SmallKey}
 use Rattle.report.specs.internal.Composed.{Composable, acceptedText, textIn}
 use Rattle.lines.proofs.Series.{lines-ext}
 use Rattle.tally.specs.Tally.{bellsText, allHold, totalsText}
-use Rattle.tally.proofs.Tables.{noted, job-is, bell-is, countable, totals-are}
+use Rattle.tally.proofs.Tables.{noted, bell-is, countable, totals-are}
 
 -- what is asked of a result and of the table of its phrase before they are composed, and what comes of it
 pub record Composed (r : Checked) (t text : List ℕ) : Type 0 where
@@ -82,7 +82,7 @@ module _ (x : Phrase) (v : Valid x) where
         let at : (f : ℕ → ℕ) → getD (perJob (length js) f) i 0 ≡ f i = λ f. per-job-at (length js) f (countable x v .0) i b in
         let key = key-is i b in
         let bell = bell-is x v i b in
-        let deadline = deadline-is i b ∙ ap (λ (j : Job). j .deadline) (sym (job-is x v i b)) in
+        let deadline = deadline-is i b ∙ ap (λ (j : Job). j .deadline) (sym (job-is x i b)) in
         λ n. record {
           number = i;
           key = key n;

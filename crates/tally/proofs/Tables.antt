@@ -6,16 +6,16 @@ use mathlib.Core.List.{List, _++_}
 use native.Mathlib.Nat.{zero-mul, one-mul}
 use native.Mathlib.Omega.{arith}
 use lib.Dec.{eqb}
-use lib.ListN.{getD, length, length-map}
+use lib.ListN.{getD, length}
 use borrow.Author.Tests.{eqb-true}
-use Rattle.words.proofs.Maps.{getD-map}
 use Rattle.model.specs.Folds.{sum}
-use Rattle.model.specs.Jobs.{Job, noJob, job}
+use Rattle.model.specs.Jobs.{Job, job}
 use Rattle.model.proofs.Folds.{sum-ext}
 use Rattle.format.specs.Phrase.{Phrase}
-use Rattle.format.specs.Jobs.{noNote, note, struck, jobOf, jobsOf}
+use Rattle.format.specs.Jobs.{note, struck, jobsOf}
 use Rattle.format.specs.Outcome.{ok}
 use Rattle.format.specs.Valid.{Valid}
+use Rattle.format.proofs.Jobs.{jobs-length, job-is}
 use Rattle.rows.specs.BellRow.{mostExecutionWord, bellRow}
 use Rattle.rows.specs.NoteRow.{struckWord}
 use Rattle.rows.specs.PhraseTable.{bellCountWord, phraseTable}
@@ -38,30 +38,24 @@ module _ (x : Phrase) (v : Valid x) where
   abbrev t : List ℕ
   t = phraseTable (ok x)
 
-  as-many : length js ≡ length (x .notes)
-  as-many = length-map (x .notes) (jobOf (x .shift) (x .bells))
-
   count-is : getD t bellCountWord 0 ≡ length (x .bells)
   count-is = header-word x v bellCountWord (omega arith)
 
   -- every job is of a note
   pub noted : (i : ℕ) → i < length js → i < length (x .notes)
-  noted i b = omega (arith, as-many)
+  noted i b = omega (arith, jobs-length x)
 
   module _ (i : ℕ) (b : i < length js) where
-    pub job-is : job js i ≡ jobOf (x .shift) (x .bells) (note x i)
-    job-is = getD-map (jobOf (x .shift) (x .bells)) (x .notes) i noNote noJob (noted i b)
-
-    pub struck-is : noteWord t i struckWord ≡ struck (x .shift) (x .bells) (note x i)
+    struck-is : noteWord t i struckWord ≡ struck (x .shift) (x .bells) (note x i)
     struck-is =
         note-word x v i struckWord (noted i b) (omega arith)
         ∙ ap (λ (r : List ℕ). getD r struckWord 0) (row-words (struck (x .shift) (x .bells) (note x i)) (note x i) (few-listed x v i (noted i b)))
 
     pub bell-is : noteWord t i struckWord ≡ job js i .bell
-    bell-is = struck-is ∙ ap (λ (j : Job). j .bell) (sym job-is)
+    bell-is = struck-is ∙ ap (λ (j : Job). j .bell) (sym (job-is x i b))
 
     -- its bell has a row
-    pub bell-below : job js i .bell < length (x .bells)
+    bell-below : job js i .bell < length (x .bells)
     bell-below = omega (arith, sym struck-is ∙ bell-is, struck-below x v i (noted i b))
 
     execution-is : bellWord t (job js i .bell) mostExecutionWord ≡ job js i .mostExecution
@@ -69,13 +63,13 @@ module _ (x : Phrase) (v : Valid x) where
     execution-is =
         ap (λ (n : ℕ). bellWord t n mostExecutionWord) (sym bell-is ∙ struck-is)
         ∙ bell-word x v (struck (x .shift) (x .bells) (note x i)) mostExecutionWord (struck-below x v i (noted i b)) (omega arith)
-        ∙ ap (λ (j : Job). j .mostExecution) (sym job-is)
+        ∙ ap (λ (j : Job). j .mostExecution) (sym (job-is x i b))
 
   -- The table is such that its strokes can be counted.
   pub countable : Countable t (length js)
   countable =
       let bells = few-bells x v in
-      (omega (arith, as-many, few-notes x v), omega (arith, count-is, bells), λ i b. omega (arith, bell-is i b, bell-below i b, bells))
+      (omega (arith, jobs-length x, few-notes x v), omega (arith, count-is, bells), λ i b. omega (arith, bell-is i b, bell-below i b, bells))
 
   -- ---- the totals of a bell
 
