@@ -11,7 +11,7 @@ use denote.Enum.Declared.{tagOf}
 use borrow.Rule.Slice.PartMut.{putMid, put-same}
 use Rattle.model.specs.Limits.{latestTime}
 use Rattle.model.specs.Jobs.{Job}
-use Rattle.model.specs.States.{State}
+use Rattle.model.specs.States.{State, level}
 use Rattle.model.specs.Exploration.{Exploration, going, tryJobs, tryStates, stateWords}
 use Rattle.model.specs.internal.Bounds.{Bounded}
 use Rattle.words.specs.Tabulate.{tabulate}
@@ -20,12 +20,13 @@ use Rattle.words.specs.internal.Parts.{part}
 use Rattle.jobs.specs.internal.JobRow.{jobsOfRows}
 use Rattle.jobs.proofs.Jobs.{length-jobs}
 use Rattle.states.specs.internal.Slots.{setOf, stateOf, slotOf, statesOf, Sound}
-use Rattle.store.specs.internal.Half.{buckets}
+use Rattle.store.specs.declared.Index.{Index}
+use Rattle.store.specs.internal.Index.{headRoom, Fits, usedOf, Linked, Indexed}
 use Rattle.store.proofs.Storing.{slot-fits}
-use Rattle.store.proofs.Indexing.{nothing-indexed}
+use Rattle.store.proofs.Chains.{no-states}
 use Rattle.steps.specs.internal.Observed.{observedOf, Observed}
-use Rattle.steps.specs.internal.Progress.{progressOf, Half, Target, HalfAt, Leaves}
-use Rattle.analysis.specs.internal.Answers.{Halves}
+use Rattle.steps.specs.internal.Progress.{progressOf, Half, Target, HalfAt, Linkable, Leaves}
+use Rattle.analysis.specs.internal.Answers.{Halves, AllLinkable}
 use Rattle.steps.specs.declared.shape.Shape.{Shape}
 use Rattle.steps.specs.declared.progress.Progress.{Progress}
 use Rattle.steps.specs.declared.progress.Progress.the-variants.{Going}
@@ -60,39 +61,49 @@ module _ (js : List Job) (cap : ℕ) where
 
 -- ---- the level while it is built
 
--- these sizes of a check
-abbrev pub shaped : ℕ → ℕ → ℕ → Shape
-shaped k m cap = record { cores = m; jobs = k; capacity = cap }
+-- these sizes of a check, and this index of a level
+abbrev pub shaped : ℕ → ℕ → ℕ → Index → Shape
+shaped k m cap index = record { cores = m; jobs = k; capacity = cap; index = index }
 
 cut : (a b : ℕ) → a + b - a ≡ b
 cut a b = omega arith
 
 -- j of the n states are explored, and have left so many in the other half
-pub record Building (rows : List ℕ) (k m cap from to n : ℕ) (table₀ seen₀ table seen heads : List ℕ) (built j : ℕ) : Type 0 where
+pub record Building (rows : List ℕ) (k m cap : ℕ) (index : Index) (from to n : ℕ) (table₀ seen₀ table seen heads : List ℕ) (built j : ℕ) : Type 0 where
   pub halves : Halves (length table₀) (cap * stateWords m k) from to
   pub given : Half (jobsOfRows rows k) m k cap (part from (cap * stateWords m k) table₀) n
+  pub linkable : AllLinkable (shaped k m cap index) (part from (cap * stateWords m k) table₀) n
   pub upto : j ≤ n
   pub long : length table ≡ length table₀
-  pub target : Target (jobsOfRows rows k) m k cap (part to (cap * stateWords m k) table) heads built
+  pub target : Target (jobsOfRows rows k) (shaped k m cap index) (part to (cap * stateWords m k) table) heads built
   pub frame : table ≡ putMid to (cap * stateWords m k) table₀ (part to (cap * stateWords m k) table)
   pub observed : Observed k seen
   pub rest : (c : ℕ) →
       tryStates (jobsOfRows rows k) cap (tabulate (λ (i : ℕ). stateOf m k (slotOf m k (part from (cap * stateWords m k) table₀) i)) j (n - j)) (going (statesOf m k (part to (cap * stateWords m k) table) built) (observedOf k seen) c)
       ≡ tryStates (jobsOfRows rows k) cap (statesOf m k (part from (cap * stateWords m k) table₀) n) (going [] (observedOf k seen₀) c)
 
+-- a level without states is indexed by any heads
+nothing-indexed : (m k : ℕ) (index : Index) (ws heads : List ℕ) → length heads ≡ headRoom → Indexed m k index ws heads 0
+nothing-indexed m k index ws heads l =
+    let none : 0 ≡ usedOf index 0 = omega arith in
+    record { long = l; spared = λ j h. absurd (omega (arith, h)); linked = subst (Linked m k index ws heads) none (no-states _ _ _) }
+
 -- before the first state, nothing is built
-pub building-starts : {rows : List ℕ} {k m cap from to n : ℕ} {table seen heads : List ℕ} → Halves (length table) (cap * stateWords m k) from to
-    → Half (jobsOfRows rows k) m k cap (part from (cap * stateWords m k) table) n → Observed k seen → length heads ≡ buckets → Building rows k m cap from to n table seen table seen heads 0 0
+pub building-starts : {rows : List ℕ} {k m cap : ℕ} {index : Index} {from to n : ℕ} {table seen heads : List ℕ}
+    → Halves (length table) (cap * stateWords m k) from to → Half (jobsOfRows rows k) m k cap (part from (cap * stateWords m k) table) n → Observed k seen
+    → length heads ≡ headRoom → Fits m k (cap * stateWords m k) index → AllLinkable (shaped k m cap index) (part from (cap * stateWords m k) table) n
+    → Building rows k m cap index from to n table seen table seen heads 0 0
 unfolding statesOf tabulate
-building-starts {rows} {k} {m} {cap} {from} {to} {n} {table} {seen} {heads} h g o l =
+building-starts {rows} {k} {m} {cap} {index} {from} {to} {n} {table} {seen} {heads} h g o l f a =
     record {
       halves = h;
       given = g;
+      linkable = a;
       upto = omega arith;
       long = refl;
       target = (
         record { long = part-length to (cap * stateWords m k) table (h .target); room = omega arith; sound = λ j b. absurd (omega (arith, b)) },
-        nothing-indexed m k (part to (cap * stateWords m k) table) heads l,
+        (f, nothing-indexed m k index (part to (cap * stateWords m k) table) heads l),
       );
       frame = sym (put-same to (cap * stateWords m k) table);
       observed = o;
@@ -101,9 +112,13 @@ building-starts {rows} {k} {m} {cap} {from} {to} {n} {table} {seen} {heads} h g 
           (sub-zero n);
     }
 
-module _ {rows : List ℕ} {k m cap from to n : ℕ} {table₀ seen₀ table seen heads : List ℕ} {built j : ℕ} (before : Building rows k m cap from to n table₀ seen₀ table seen heads built j) where
+module _ {rows : List ℕ} {k m cap : ℕ} {index : Index} {from to n : ℕ} {table₀ seen₀ table seen heads : List ℕ} {built j : ℕ}
+    (before : Building rows k m cap index from to n table₀ seen₀ table seen heads built j) where
   abbrev js : List Job
   js = jobsOfRows rows k
+
+  abbrev shape : Shape
+  shape = shaped k m cap index
 
   abbrev W : ℕ
   W = stateWords m k
@@ -120,7 +135,7 @@ module _ {rows : List ℕ} {k m cap from to n : ℕ} {table₀ seen₀ table see
 
   -- what the level's end leaves, and that the rest of the table is as it was
   abbrev Built : Progress → List ℕ → List ℕ → List ℕ → Type 0
-  Built r table seen heads = Leaves js (shaped k m cap) Next r (part to size table) seen heads × (table ≡ putMid to size table₀ (part to size table))
+  Built r table seen heads = Leaves js shape Next r (part to size table) seen heads × (table ≡ putMid to size table₀ (part to size table))
 
   -- state j lies in the half that is read
   source-inside : j < n → from + j * W + W ≤ length table₀
@@ -132,7 +147,11 @@ module _ {rows : List ℕ} {k m cap from to n : ℕ} {table₀ seen₀ table see
   -- after the last, the level is built
   pub building-ends : n ≤ j → Built (Going built) table seen heads
   building-ends h = (
-    record { same = λ c. sym (states-end js cap source n j (going (statesOf m k (part to size table) built) (observedOf k seen) c) h) ∙ before .rest c; sound = before .target; observed = before .observed },
+    record {
+      same = λ c. sym (states-end js cap source n j (going (statesOf m k (part to size table) built) (observedOf k seen) c) h) ∙ before .rest c;
+      sound = before .target;
+      observed = before .observed;
+    },
     before .frame,
   )
 
@@ -157,7 +176,7 @@ module _ {rows : List ℕ} {k m cap from to n : ℕ} {table₀ seen₀ table see
     read-inside = rw wide (omega (arith, source-inside more, before .long))
 
     -- the half that is lent is the one that is built
-    pub target-half : Target js m k cap (part to span table) heads built
+    pub target-half : Target js shape (part to span table) heads built
     target-half = rw spans (before .target)
 
     read-now : read ≡ slotOf m k (part from size table₀) j
@@ -179,8 +198,13 @@ module _ {rows : List ℕ} {k m cap from to n : ℕ} {table₀ seen₀ table see
             bounded = subst (Bounded js latestTime) (sym in-hand) (s .bounded);
           }
 
+      -- and what follows it can be linked
+      pub loaded-linkable : Linkable shape cur
+      loaded-linkable h = omega (arith, ap level in-hand, before .linkable j more h)
+
       module _ {r : Progress} {half seen′ heads′ : List ℕ} (kept : length half ≡ length (part to span table))
-          (leaves : Leaves js (shaped k m cap) (λ c. tryJobs js cap (stateOf m k cur) k (going (statesOf m k (part to span table) built) (observedOf k seen) c)) r half seen′ heads′) where
+          (leaves : Leaves js shape (λ c. tryJobs js cap (stateOf m k cur) k (going (statesOf m k (part to span table) built) (observedOf k seen) c))
+          r half seen′ heads′) where
         abbrev table′ : List ℕ
         table′ = putMid to span table half
 
@@ -215,14 +239,15 @@ module _ {rows : List ℕ} {k m cap from to n : ℕ} {table₀ seen₀ table see
             ∙ sym (states-on js cap source n j x more) ∙ before .rest c
 
         -- a step that goes on leaves one state more explored
-        pub building-goes-on : {count : ℕ} → r ≡ Going count → Building rows k m cap from to n table₀ seen₀ table′ seen′ heads′ count (j + 1)
+        pub building-goes-on : {count : ℕ} → r ≡ Going count → Building rows k m cap index from to n table₀ seen₀ table′ seen′ heads′ count (j + 1)
         building-goes-on {count} e =
             record {
               halves = before .halves;
               given = before .given;
+              linkable = before .linkable;
               upto = omega arith;
               long = table-long;
-              target = subst (λ (z : List ℕ). Target js m k cap z heads′ count) (sym put) (subst (λ (z : Progress). HalfAt js m k cap z half heads′) e (leaves .sound));
+              target = subst (λ (z : List ℕ). Target js shape z heads′ count) (sym put) (subst (λ (z : Progress). HalfAt js shape z half heads′) e (leaves .sound));
               frame = framed;
               observed = leaves .observed;
               rest = λ c.
@@ -242,7 +267,7 @@ module _ {rows : List ℕ} {k m cap from to n : ℕ} {table₀ seen₀ table see
             same = λ c.
                 ap (progressOf m k (observedOf k seen′) c r) put
                 ∙ stays (progressOf m k (observedOf k seen′) c r half) (ended r h m k (observedOf k seen′) c half) c refl;
-            sound = subst (λ (z : List ℕ). HalfAt js m k cap r z heads′) (sym put) (leaves .sound);
+            sound = subst (λ (z : List ℕ). HalfAt js shape r z heads′) (sym put) (leaves .sound);
             observed = leaves .observed;
           },
           framed,

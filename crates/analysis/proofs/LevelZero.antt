@@ -126,8 +126,9 @@ module _ (rows : List ℕ) (k m : ℕ) (table : List ℕ) {w : ℕ} (wide : w �
       (stops js m (capacity (length table) m k) 0 (full 0) tt (omega arith) (rw (lt-ltb (capacity (length table) m k) 1 (omega (arith, n)), none-started (length js))), (o, refl))
 
   module _ (room : cap ≡ 0 → ⊥) where
-    some : 1 ≤ cap
-    some = positive cap room
+    -- a half has room for a state
+    pub room-for-one : 1 ≤ cap
+    room-for-one = positive cap room
 
     halves-fit : 2 * (cap * width) ≤ length table
     halves-fit =
@@ -135,7 +136,7 @@ module _ (rows : List ℕ) (k m : ℕ) (table : List ℕ) {w : ℕ} (wide : w �
         omega (arith, e, div-mul-le-self (length table) (2 * w))
 
     one-fits : width ≤ cap * width
-    one-fits = omega (arith, mul-le-mul-right width some, one-mul width)
+    one-fits = omega (arith, mul-le-mul-right width room-for-one, one-mul width)
 
     -- the first state lies in the table
     pub first-inside : w ≤ length table
@@ -179,7 +180,7 @@ module _ (rows : List ℕ) (k m : ℕ) (table : List ℕ) {w : ℕ} (wide : w �
       first-half timed =
           record {
             long = part-length 0 (cap * width) cleared (omega (arith, long, halves-fit));
-            room = some;
+            room = room-for-one;
             sound = λ j h. rw (only j h) (rw slot (zeros-sound m k rows timed));
           }
         where
@@ -190,7 +191,7 @@ module _ (rows : List ℕ) (k m : ℕ) (table : List ℕ) {w : ℕ} (wide : w �
       pub first-level : {seen : List ℕ} → seen ≡ zeros observedWords → going (statesOf m k (part 0 (cap * width) cleared) 1) (observedOf k seen) 1 ≡ explored js m cap 0
       unfolding statesOf tabulate explored limited
       first-level {seen} none =
-          rw (le-ltb cap 1 some, length-jobs rows k)
+          rw (le-ltb cap 1 room-for-one, length-jobs rows k)
           (ap (λ (σ : State). going (σ ∷ []) (observedOf k seen) 1) (ap (stateOf m k) slot ∙ zeros-state m k)
           ∙ ap (λ (l : List Range). going (initial m k ∷ []) l 1) (ap (observedOf k) none ∙ zeros-observed k observedWords))
 

@@ -2,11 +2,14 @@
 use Prim.Native.Nat.{ℕ, _+_, _*_, _≤_, _<_}
 use mathlib.Core.Path.{_≡_, refl, sym, ap, _∙_, subst}
 use mathlib.Core.Logic.{inl}
+use mathlib.Core.Bool.{true}
 use mathlib.Core.List.{List, []}
 use native.Mathlib.Nat.{suc-mul, mul-comm, mul-le-mul-right}
-use native.Mathlib.Numerals.{add-one}
+use native.Mathlib.Numerals.{add-one, lt-of-le-of-ne}
 use native.Mathlib.Omega.{arith}
+use lib.Dec.{eqb}
 use lib.ListN.{length, drop}
+use borrow.Author.Tests.{eq-eqb}
 use borrow.Rule.Slice.PartMut.{putMid}
 use Rattle.model.specs.Jobs.{Job}
 use Rattle.model.specs.Exploration.{Exploration, going, full, miss, tryStates, counted, nextLevel, explored, Verdict, accepted, refused, late, verdictOf, analysis, stateWords}
@@ -18,11 +21,13 @@ use Rattle.jobs.specs.internal.JobRow.{jobsOfRows}
 use Rattle.jobs.proofs.Jobs.{length-jobs}
 use Rattle.states.specs.internal.Slots.{stateOf, slotOf, statesOf}
 use Rattle.steps.specs.internal.Observed.{observedOf, Observed}
+use Rattle.store.specs.declared.Index.{Index}
 use Rattle.steps.specs.internal.Progress.{progressOf, Half, HalfAt, Leaves}
-use Rattle.analysis.specs.internal.Answers.{Halves}
+use Rattle.analysis.specs.internal.Answers.{Halves, AllLinkable}
 use Rattle.steps.specs.declared.progress.Progress.{Progress}
 use Rattle.steps.specs.declared.progress.Progress.the-variants.{Going, Full, Late}
 use Rattle.steps.proofs.Following.{Stopped}
+use Rattle.analysis.proofs.Depth.{depth-of}
 use Rattle.analysis.proofs.Building.{shaped}
 use Rattle.analysis.proofs.Halves.{Roles, roles-apart, roles-change}
 
@@ -106,8 +111,15 @@ module _ {rows : List ℕ} {k m cap : ℕ} {table₀ table seen : List ℕ} {fro
       let e : level ≡ length js = omega (arith, before .upto, length-jobs rows k) in
       (ap verdictOf (before .same ∙ ap (explored js m cap) e), (before .observed, before .past))
 
-  module _ {r : Progress} {table′ seen′ heads : List ℕ} (more : level < k) (kept : length table′ ≡ length table)
-      (leaves : Leaves js (shaped k m cap) (λ c. tryStates js cap (statesOf m k (part from size table) n) (going [] (observedOf k seen) c)) r (part to size table′) seen′ heads)
+  -- if the states of the last level are not linked, those that follow the states of this one can be, where they are
+  pub level-linkable : (index : Index) → level < k → (eqb (level + 1) k ≡ true → index .linked ≡ 0) → AllLinkable (shaped k m cap index) (part from size table) n
+  level-linkable index more last j b h =
+      let not-last : level + 1 < k = lt-of-le-of-ne (omega arith) (λ e. omega (arith, last (eq-eqb _ _ e), h)) in
+      omega (arith, depth-of js m k cap (part from size table) (before .same) j b)
+
+  module _ {index : Index} {r : Progress} {table′ seen′ heads : List ℕ} (more : level < k) (kept : length table′ ≡ length table)
+      (leaves : Leaves js (shaped k m cap index) (λ c. tryStates js cap (statesOf m k (part from size table) n) (going [] (observedOf k seen) c)) r
+      (part to size table′) seen′ heads)
       (frame : table′ ≡ putMid to size table (part to size table′)) where
     next : counted (progressOf m k (observedOf k seen′) count r (part to size table′)) ≡ explored js m cap (level + 1)
     unfolding nextLevel
@@ -120,7 +132,7 @@ module _ {rows : List ℕ} {k m cap : ℕ} {table₀ table seen : List ℕ} {fro
 
     module _ {x : ℕ} (e : r ≡ Going x) where
       half : Half js m k cap (part to size table′) x
-      half = subst (λ (z : Progress). HalfAt js m k cap z (part to size table′) heads) e (leaves .sound) .0
+      half = subst (λ (z : Progress). HalfAt js (shaped k m cap index) z (part to size table′) heads) e (leaves .sound) .0
 
       few : count + x ≤ 1 + (level + 1) * cap
       few = omega (arith, ap (λ (z : ℕ). z * cap) (add-one level) ∙ suc-mul level cap, before .few, half .room)

@@ -1,7 +1,8 @@
 // The levels of the analysis: each is built from the states of the one before it, in the other half of the table.
 ghost use mathlib.Core.Path.{_≡_};
+ghost use mathlib.Core.Bool.{true};
 ghost use mathlib.Core.List.{[]};
-ghost use Prim.Native.Nat.{_+_, _*_, _≤_};
+ghost use Prim.Native.Nat.{ℕ, _*_, _≤_, _<_};
 ghost use lib.ListN.{length, drop};
 ghost use borrow.Rule.Slice.PartMut.{putMid};
 ghost use Rattle.model.specs.Exploration.{stateWords, capacity, going, tryStates, explored, analysis};
@@ -9,10 +10,10 @@ ghost use Rattle.words.specs.internal.Parts.{part};
 ghost use Rattle.jobs.specs.internal.JobRow.{Setting, jobsOfRows};
 ghost use Rattle.states.specs.internal.Slots.{statesOf};
 ghost use Rattle.edges.specs.internal.Edges.{PredecessorSets};
-ghost use Rattle.store.specs.internal.Half.{buckets};
+ghost use Rattle.store.specs.internal.Index.{headRoom, lastSlot, Fits};
 ghost use Rattle.steps.specs.internal.Observed.{observedWords, observedOf, Observed};
-ghost use Rattle.steps.specs.internal.Progress.{jobsIn, goingIn, Half, Leaves};
-ghost use Rattle.analysis.specs.internal.Answers.{Halves, halfWords, verdictIn};
+ghost use Rattle.steps.specs.internal.Progress.{jobsIn, Half, Leaves};
+ghost use Rattle.analysis.specs.internal.Answers.{Halves, halfWords, AllLinkable, verdictIn};
 use edges::write_predecessor_sets;
 use model::limits::MOST_JOBS;
 use states::copying::load_state;
@@ -21,7 +22,8 @@ use states::sizes::state_words;
 use steps::explore::try_state;
 use steps::progress::Progress;
 use steps::shape::Shape;
-use store::BUCKETS;
+use store::HEAD_ROOM;
+use store::Index;
 use words::clear;
 
 // What the analysis ends with.
@@ -55,7 +57,9 @@ pub fn build_level(
         × PredecessorSets (jobsIn shape (now rows)) (shape .jobs) (now sets) ⌝ }
     requires { ⌜ Halves (length (now table)) (halfWords shape) (level .from) (level .to)
         × Half (jobsIn shape (now rows)) (shape .cores) (shape .jobs) (shape .capacity) (part (level .from) (halfWords shape) (now table)) (level .states)
-        × Observed (shape .jobs) (now seen) × (length (now heads) ≡ buckets) ⌝ }
+        × Observed (shape .jobs) (now seen) ⌝ }
+    requires { ⌜ (length (now heads) ≡ headRoom) × Fits (shape .cores) (shape .jobs) (halfWords shape) (shape .index)
+        × AllLinkable shape (part (level .from) (halfWords shape) (now table)) (level .states) ⌝ }
     ensures { λ r. ⌜ Leaves (jobsIn shape (now (rows .entry))) shape
         (λ c. tryStates (jobsIn shape (now (rows .entry))) (shape .capacity)
         (statesOf (shape .cores) (shape .jobs) (part (level .from) (halfWords shape) (now (table .entry))) (level .states))
@@ -86,7 +90,7 @@ pub fn build_level(
             built,
             rows,
             sets,
-            &cur,
+            &mut cur,
             shape,
         );
         let Progress::Going(x) = progress else {
@@ -98,28 +102,78 @@ pub fn build_level(
     Progress::Going(built)
 }
 
-// Builds level after level, from level 0 in the lower half on: the halves change roles. The index needs no clearing between levels.
-pub fn build_levels(table: &mut [u32], seen: &mut [u32], rows: &[u32], shape: Shape) -> Analysed
-    requires { ⌜ Setting (now rows) (shape .jobs) (shape .cores) × (2 * halfWords shape ≤ length (now table))
-        × Half (jobsIn shape (now rows)) (shape .cores) (shape .jobs) (shape .capacity) (part 0 (halfWords shape) (now table)) 1 × Observed (shape .jobs) (now seen) ⌝ }
-    requires { ⌜ goingIn shape (part 0 (halfWords shape) (now table)) 1 (now seen) 1 ≡ explored (jobsIn shape (now rows)) (shape .cores) (shape .capacity) 0 ⌝ }
-    ensures { λ r. ⌜ verdictIn (shape .jobs) r (now (seen .exit)) ≡ analysis (jobsIn shape (now (rows .entry))) (shape .cores) (shape .capacity) ⌝ }
-    ensures { λ _. ⌜ Observed (shape .jobs) (now (seen .exit)) ⌝ }
-    ensures { λ _. ⌜ drop (2 * halfWords shape) (now (table .exit)) ≡ drop (2 * halfWords shape) (now (table .entry)) ⌝ }
+// The last slot that a word can name.
+const LAST_SLOT: usize = 4294967295;
+
+// From so many states on, heads of the next level stand in its slots.
+const MANY_STATES: usize = 512;
+
+// How many buckets there are in the next level of one with n states: four for each of them, but not more than linked slots.
+fn bucket_count(linked: usize, n: usize) -> usize
+    requires { ⌜ (1 ≤ linked) × (linked ≤ lastSlot) ⌝ }
+    ensures { λ r. ⌜ (1 ≤ r) × (r ≤ lastSlot) × (headRoom < r → r ≤ linked) ⌝ }
 {
-    let m = shape.cores;
-    let k = shape.jobs;
-    let cap = shape.capacity;
-    let w = state_words(m, k);
+    if n < MANY_STATES {
+        return HEAD_ROOM;
+    }
+    if linked / 4 < n {
+        return linked;
+    }
+    4 * n
+}
+
+// The index of the next level of one with n states. In the last level no state has spare words, and all have one set: there is none.
+fn index_of(cap: usize, n: usize, last: bool) -> Index
+    requires { ⌜ 1 ≤ cap ⌝ }
+    ensures { λ r. ⌜ ((m k : ℕ) → Fits m k (cap * stateWords m k) r) × (last ≡ true → r .linked ≡ 0) ⌝ }
+{
+    if last {
+        return Index {
+            linked: 0,
+            buckets: 0,
+        };
+    }
+    let mut linked = cap;
+    if LAST_SLOT < cap {
+        linked = LAST_SLOT;
+    }
+    Index {
+        linked,
+        buckets: bucket_count(linked, n),
+    }
+}
+
+// Builds level after level, from level 0 in the lower half on: the halves change roles. The heads need no clearing between levels.
+pub fn build_levels(
+    table: &mut [u32],
+    seen: &mut [u32],
+    rows: &[u32],
+    k: usize,
+    m: usize,
+    cap: usize,
+) -> Analysed
+    requires { ⌜ Setting (now rows) k m × (2 * (cap * stateWords m k) ≤ length (now table)) × (1 ≤ cap)
+        × Half (jobsOfRows (now rows) k) m k cap (part 0 (cap * stateWords m k) (now table)) 1 × Observed k (now seen) ⌝ }
+    requires { ⌜ going (statesOf m k (part 0 (cap * stateWords m k) (now table)) 1) (observedOf k (now seen)) 1 ≡ explored (jobsOfRows (now rows) k) m cap 0 ⌝ }
+    ensures { λ r. ⌜ verdictIn k r (now (seen .exit)) ≡ analysis (jobsOfRows (now (rows .entry)) k) m cap ⌝ }
+    ensures { λ _. ⌜ Observed k (now (seen .exit)) ⌝ }
+    ensures { λ _. ⌜ drop (2 * (cap * stateWords m k)) (now (table .exit)) ≡ drop (2 * (cap * stateWords m k)) (now (table .entry)) ⌝ }
+{
     let mut sets = [0u64; MOST_JOBS];
     write_predecessor_sets(rows, k, &mut sets);
+    let mut heads = [0u32; HEAD_ROOM];
     let mut from = 0;
-    let mut to = cap * w;
+    let mut to = cap * state_words(m, k);
     let mut n = 1;
     let mut count = 1u64;
     let mut depth = 0;
-    let mut heads = [0u32; BUCKETS];
     while depth < k {
+        let shape = Shape {
+            cores: m,
+            jobs: k,
+            capacity: cap,
+            index: index_of(cap, n, depth + 1 == k),
+        };
         let level = Level {
             from,
             states: n,
@@ -160,10 +214,5 @@ pub fn analyse(table: &mut [u32], seen: &mut [u32], rows: &[u32], k: usize, m: u
         return Analysed::Full(0);
     }
     clear(&mut table[0..w]);
-    let shape = Shape {
-        cores: m,
-        jobs: k,
-        capacity: cap,
-    };
-    build_levels(table, seen, rows, shape)
+    build_levels(table, seen, rows, k, m, cap)
 }

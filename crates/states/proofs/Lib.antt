@@ -1,5 +1,5 @@
--- Laws of sets as bits, of the words of a state, of a sorted list that takes an element, of two lists side by side, and of the words that a copy, a start or
--- a merge leaves.
+-- Laws of sets as bits, of the words of a state, of a sorted list that takes an element, of two lists side by side, and of the words that a copy, a start, a
+-- merge or a restored front leaves.
 pub mod Bits
 pub mod Contents
 pub mod Sorting
@@ -8,3 +8,4 @@ pub mod Frames
 pub mod Copies
 pub mod Starts
 pub mod Merges
+pub mod Restoring

@@ -16,11 +16,11 @@ use Rattle.model.specs.Exploration.{stateWords}
 use Rattle.model.specs.internal.Sorted.{Sorted, Ordered}
 use Rattle.model.proofs.StartedSet.{maskOf, mask-bit, mask-set, mask-fits}
 use Rattle.words.proofs.Tabulate.{tabulate-is}
-use Rattle.words.proofs.Parts.{part-same, part-before, part-after, part-set-before, part-set-after, length-put}
+use Rattle.words.proofs.Parts.{part-same, part-before, part-after, part-set-before, part-set-after, length-put, get-after}
 use Rattle.words.specs.internal.Parts.{part}
 use Rattle.states.specs.internal.Slots.{setWords, possiblyAt, certainlyAt, earliestAt, latestAt, setOf, inSet, rangeAt, stateOf}
 use Rattle.states.proofs.Contents.{finish-length, finish-at, started-at, set-mask}
-use Rattle.states.specs.internal.Writing.{withStart}
+use Rattle.states.specs.internal.Writing.{withStart, OtherFinishesKept}
 use Rattle.states.proofs.Frames.{same-state, same-range, put-set, put-finish}
 
 -- ---- the set with a job more
@@ -78,6 +78,13 @@ module _ (m k : ℕ) (d : List ℕ) (i : ℕ) (h : i < k) (fits : setOf d < 2 ^ 
         getD-set-other withEarliest (latestAt m k + i) j f 0 q ∙ getD-set-other withSet (earliestAt m + i) j e 0 p
         ∙ getD-set-other (set d 0 (new % 4294967296)) 1 j (new / 4294967296) 0 (λ (z : j ≡ 1). omega (arith, z)) ∙ getD-set-other d 0 j (new % 4294967296) 0 (λ (z : j ≡ 0). omega (arith, z))
 
+    -- the other finish times have their words
+    pub added-others : OtherFinishesKept m k i d out
+    added-others j b z = (
+      other-word (earliestAt m + j) (omega arith) (λ (w : earliestAt m + j ≡ earliestAt m + i). z (omega (arith, w))) (λ (w : earliestAt m + j ≡ latestAt m k + i). omega (arith, w)),
+      other-word (latestAt m k + j) (omega arith) (λ (w : latestAt m k + j ≡ earliestAt m + i). omega (arith, w)) (λ (w : latestAt m k + j ≡ latestAt m k + i). z (omega (arith, w))),
+    )
+
     earliest-word : getD out (earliestAt m + i) 0 ≡ e
     earliest-word =
         getD-set-other withEarliest (latestAt m k + i) (earliestAt m + i) f 0 (λ (z : earliestAt m + i ≡ latestAt m k + i). omega (arith, z))
@@ -99,9 +106,7 @@ module _ (m k : ℕ) (d : List ℕ) (i : ℕ) (h : i < k) (fits : setOf d < 2 ^ 
             rw (bit, z, same, earliest-word, latest-word) refl
         go (no z) =
             let other = getD-set-other finish i j (range e f) empty z in
-            same-range m k out d j (bit ∙ ap isRange other ∙ started-at m k d j b)
-            (other-word (earliestAt m + j) (omega arith) (λ (w : earliestAt m + j ≡ earliestAt m + i). z (omega (arith, w))) (λ (w : earliestAt m + j ≡ latestAt m k + i). omega (arith, w)))
-            (other-word (latestAt m k + j) (omega arith) (λ (w : latestAt m k + j ≡ earliestAt m + i). omega (arith, w)) (λ (w : latestAt m k + j ≡ latestAt m k + i). z (omega (arith, w))))
+            same-range m k out d j (bit ∙ ap isRange other ∙ started-at m k d j b) (added-others j b z .0) (added-others j b z .1)
             ∙ sym (other ∙ finish-at m k d j b)
 
     other-part : (b : ℕ) → setWords ≤ b → b + m ≤ earliestAt m → part b m out ≡ part b m d
@@ -142,6 +147,13 @@ module _ (m k : ℕ) (ws ys zs : List ℕ) (long : stateWords m k ≤ length ws)
   -- the set stays
   pub updated-set : setOf upper ≡ setOf ws
   updated-set = put-set m k (certainlyAt m) lower zs (omega arith) (omega arith) lower-long lz ∙ put-set m k possiblyAt ws ys (omega arith) (omega arith) long ly
+
+  late-word : (j : ℕ) → earliestAt m ≤ j → getD upper j 0 ≡ getD ws j 0
+  late-word j b = get-after (certainlyAt m) m lower zs (omega (arith, lower-long)) lz j (omega arith) ∙ get-after possiblyAt m ws ys (omega arith) ly j (omega arith)
+
+  -- the finish times stay
+  pub updated-others : (i : ℕ) (d : List ℕ) → OtherFinishesKept m k i d ws → OtherFinishesKept m k i d upper
+  updated-others i d o j b z = (late-word (earliestAt m + j) (omega arith) ∙ o j b z .0, late-word (latestAt m k + j) (omega arith) ∙ o j b z .1)
 
   updated-state : stateOf m k upper ≡ record { finish = stateOf m k ws .finish; possiblyFree = ys; certainlyFree = zs }
   unfolding stateOf

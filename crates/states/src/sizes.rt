@@ -9,6 +9,9 @@ use model::limits::MOST_JOBS;
 // The words of the set of started jobs; the availabilities follow.
 pub const SET_WORDS: usize = 2;
 
+// The words of the longest front: what comes before the finish times.
+pub const MOST_FRONT_WORDS: usize = SET_WORDS + 2 * MOST_CORES;
+
 // The words of the largest state.
 pub const MOST_STATE_WORDS: usize = SET_WORDS + 2 * MOST_CORES + 2 * MOST_JOBS;
 

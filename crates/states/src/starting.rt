@@ -9,7 +9,7 @@ ghost use Rattle.model.specs.Edges.{availability};
 ghost use Rattle.model.specs.Exploration.{stateWords};
 ghost use Rattle.model.specs.internal.Sorted.{Sorted, Ordered};
 ghost use Rattle.states.specs.internal.Slots.{setOf, stateOf};
-ghost use Rattle.states.specs.internal.Writing.{afterStart};
+ghost use Rattle.states.specs.internal.Writing.{afterStart, OtherFinishesKept};
 use crate::reading::WORD;
 use crate::reading::started_set;
 use crate::sizes::SET_WORDS;
@@ -47,6 +47,7 @@ fn add_job(out: &mut [u32], m: usize, k: usize, i: usize, e: u32, f: u32)
     ensures { λ _. ⌜ stateOf m k (now (out .exit))
         ≡ record { finish = set (stateOf m k (now (out .entry)) .finish) i (range e f); possiblyFree = stateOf m k (now (out .entry)) .possiblyFree; certainlyFree = stateOf m k (now (out .entry)) .certainlyFree } ⌝ }
     ensures { λ _. ⌜ setOf (now (out .exit)) ≡ setOf (now (out .entry)) + 2 ^ i ⌝ }
+    ensures { λ _. ⌜ OtherFinishesKept m k i (now (out .entry)) (now (out .exit)) ⌝ }
 {
     let set = started_set(out) + (1u64 << i);
     out[0] = (set % WORD) as u32;
@@ -55,12 +56,13 @@ fn add_job(out: &mut [u32], m: usize, k: usize, i: usize, e: u32, f: u32)
     out[SET_WORDS + 2 * m + k + i] = f;
 }
 
-// Makes the successor of a state in its words.
+// Makes the successor of a state in its words. Those of other finish times stay, so that the state can be restored by its front.
 pub fn start_job(out: &mut [u32], m: usize, k: usize, start: JobStart)
     requires { ⌜ (start .job < k) × (k ≤ mostJobs) × (1 ≤ m) × (stateWords m k ≤ length (now out)) × (setOf (now out) < 2 ^ k)
         × (started (stateOf m k (now out)) (start .job) ≡ false) × Ordered (stateOf m k (now out)) ⌝ }
     ensures { λ _. ⌜ stateOf m k (now (out .exit)) ≡ afterStart (stateOf m k (now (out .entry))) start ⌝ }
     ensures { λ _. ⌜ setOf (now (out .exit)) ≡ setOf (now (out .entry)) + 2 ^ start .job ⌝ }
+    ensures { λ _. ⌜ OtherFinishesKept m k (start .job) (now (out .entry)) (now (out .exit)) ⌝ }
 {
     let certainly = SET_WORDS + m;
     let finish = certainly + m;

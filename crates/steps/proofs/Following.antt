@@ -11,17 +11,20 @@ use lib.ListN.{getD, length, take, drop, take-append-drop}
 use lib.Seq.{take-all}
 use borrow.Author.Tests.{lt-ltb, le-ltb}
 use Rattle.model.specs.Jobs.{Job, job}
-use Rattle.model.specs.States.{Range, State, started}
+use Rattle.model.specs.Folds.{ind}
+use Rattle.model.specs.States.{Range, empty, range, isRange, State, started, level}
 use Rattle.model.specs.Edges.{candidate, isBelow, earliestStart, workConservingBound, higherPriorityBound, eligible, latestFinish, successor}
 use Rattle.model.specs.Exploration.{Exploration, going, full, miss, limited, stored, observed, addEdge, tryJob, tryJobs}
 use Rattle.model.proofs.Booleans.{and-left}
+use Rattle.model.proofs.Folds.{count-set}
 use Rattle.model.proofs.Starts.{candidate-out}
 use Rattle.model.proofs.Bounds.{successor-bounded}
 use Rattle.model.specs.internal.Bounds.{TimedUpTo, Bounded}
 use Rattle.jobs.specs.internal.JobRow.{jobsOfRows, Setting, word, leastExecutionAt}
 use Rattle.jobs.proofs.Jobs.{length-jobs, field-of}
 use Rattle.states.specs.declared.starting.JobStart.{JobStart}
-use Rattle.states.specs.internal.Slots.{statesOf}
+use Rattle.words.proofs.Tabulate.{length-tabulate}
+use Rattle.states.specs.internal.Slots.{rangeAt, stateOf, statesOf}
 use Rattle.states.specs.internal.Writing.{afterStart}
 use Rattle.edges.specs.declared.Edge.{Edge}
 use Rattle.edges.specs.declared.Edge.the-variants.{NotEligible, Starts}
@@ -105,6 +108,15 @@ module _ (js : List Job) (cap : ℕ) (σ : State) (x : JobStart) (l : List State
   pub edge-kept : x .latest ≤ job js (x .job) .deadline → limited cap (afterStart σ x) (stored (afterStart σ x) l) seen c ≡ followed js cap σ (Starts x) l seen c
   edge-kept h = rw (le-ltb (job js (x .job) .deadline) (x .latest) h)
 
+-- one job more has started
+pub one-more-started : (m k : ℕ) (ws : List ℕ) (x : JobStart) → x .job < k → started (stateOf m k ws) (x .job) ≡ false
+    → level (afterStart (stateOf m k ws) x) ≡ level (stateOf m k ws) + 1
+unfolding stateOf
+one-more-started m k ws x h e =
+    let σ = stateOf m k ws in
+    let b : x .job < length (σ .finish) = omega (arith, length-tabulate (rangeAt m k ws) 0 k) in
+    omega (arith, count-set isRange (σ .finish) (x .job) (range (x .earliest) (x .latest)) empty b, ap ind e)
+
 -- ---- the candidates of a state in turn
 
 -- the exploration has stopped
@@ -176,7 +188,7 @@ pub edge-tried : (js : List Job) (shape : Shape) (σ : State) (i : ℕ) (edge : 
     → (n : ℕ) (half seen half′ seen′ heads′ : List ℕ) (r : Progress) → observedOf (shape .jobs) seen′ ≡ observedBy edge (observedOf (shape .jobs) seen)
     → Observed (shape .jobs) seen′
     → ((s : List Range) (c : ℕ) → progressOf (shape .cores) (shape .jobs) s c r half′ ≡ followed js (shape .capacity) σ edge (statesOf (shape .cores) (shape .jobs) half n) s c)
-    → HalfAt js (shape .cores) (shape .jobs) (shape .capacity) r half′ heads′
+    → HalfAt js shape r half′ heads′
     → Leaves js shape (λ c. tryJob js (shape .capacity) σ i (goingIn shape half n seen c)) r half′ seen′ heads′
 edge-tried js shape σ i edge e n half seen half′ seen′ heads′ r widened there follows sound =
     let l = statesOf (shape .cores) (shape .jobs) half n in

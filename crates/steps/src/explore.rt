@@ -8,10 +8,11 @@ ghost use Rattle.model.specs.Exploration.{tryJobs, stateWords};
 ghost use Rattle.jobs.specs.internal.JobRow.{Setting};
 ghost use Rattle.states.specs.declared.starting.JobStart.{JobStart};
 ghost use Rattle.states.specs.internal.Slots.{statesOf, Sound};
+ghost use Rattle.states.specs.internal.Writing.{Restored};
 ghost use Rattle.edges.specs.declared.Edge.the-variants.{Starts};
 ghost use Rattle.edges.specs.internal.Edges.{PredecessorSets};
 ghost use Rattle.steps.specs.internal.Observed.{Observed};
-ghost use Rattle.steps.specs.internal.Progress.{jobsIn, stateIn, goingIn, progressOf, followed, Target, HalfAt, Leaves, Explores, Follows};
+ghost use Rattle.steps.specs.internal.Progress.{jobsIn, stateIn, goingIn, progressOf, followed, Target, HalfAt, Linkable, FrontOf, Leaves, Explores, Follows};
 use crate::observed::observe_edge;
 use crate::progress::Progress;
 use crate::shape::Shape;
@@ -22,25 +23,27 @@ use edges::list_candidates;
 use edges::survey;
 use jobs::deadline;
 use model::limits::MOST_JOBS;
-use states::sizes::MOST_STATE_WORDS;
+use states::copying::copy_front;
+use states::sizes::MOST_FRONT_WORDS;
 
-// Follows the edge of a job, where it has one: the job starts. The new state is made in `new`.
+// Follows the edge of a job, where it has one: the job starts. `front` is the front of the state in hand.
 pub fn follow(
     half: &mut [u32],
     heads: &mut [u32],
     n: usize,
     rows: &[u32],
-    cur: &[u32],
-    new: &mut [u32],
+    cur: &mut [u32],
+    front: &[u32],
     shape: Shape,
     edge: Edge,
 ) -> Progress
-    requires { ⌜ Explores (now rows) shape (now cur) (now half) n (now heads) × (stateWords (shape .cores) (shape .jobs) ≤ length (now new))
+    requires { ⌜ Explores (now rows) shape (now cur) (now half) n (now heads) × FrontOf shape (now cur) (now front)
         × ((x : JobStart) → edge ≡ Starts x → (x .job < shape .jobs) × Follows (jobsIn shape (now rows)) (stateIn shape (now cur)) x) ⌝ }
     ensures { λ r. ⌜ ((seen : List Range) (c : ℕ) → progressOf (shape .cores) (shape .jobs) seen c r (now (half .exit))
         ≡ followed (jobsIn shape (now (rows .entry))) (shape .capacity) (stateIn shape (now (cur .entry))) edge
         (statesOf (shape .cores) (shape .jobs) (now (half .entry)) n) seen c) ⌝ }
-    ensures { λ r. ⌜ HalfAt (jobsIn shape (now (rows .entry))) (shape .cores) (shape .jobs) (shape .capacity) r (now (half .exit)) (now (heads .exit)) ⌝ }
+    ensures { λ r. ⌜ HalfAt (jobsIn shape (now (rows .entry))) shape r (now (half .exit)) (now (heads .exit)) ⌝ }
+    ensures { λ _. ⌜ Restored (shape .cores) (shape .jobs) (now (cur .entry)) (now (cur .exit)) ⌝ }
 {
     let Edge::Starts(start) = edge else {
         return Progress::Going(n);
@@ -51,7 +54,7 @@ pub fn follow(
     if deadline(rows, shape.jobs, i) < f {
         return Progress::Late(i, e, f);
     }
-    store_successor(half, heads, n, cur, new, shape, start)
+    store_successor(half, heads, n, cur, front, shape, start)
 }
 
 // Every edge of one state, by rising number of its job, into the half, which holds n states. `sets` are the predecessors of each job. For each edge, what
@@ -63,13 +66,13 @@ pub fn try_state(
     n: usize,
     rows: &[u32],
     sets: &[u64],
-    cur: &[u32],
+    cur: &mut [u32],
     shape: Shape,
 ) -> Progress
     requires { ⌜ Setting (now rows) (shape .jobs) (shape .cores) × (shape .jobs ≤ length (now sets))
         × PredecessorSets (jobsIn shape (now rows)) (shape .jobs) (now sets) ⌝ }
     requires { ⌜ (stateWords (shape .cores) (shape .jobs) ≤ length (now cur)) × Sound (jobsIn shape (now rows)) (shape .cores) (shape .jobs) (now cur)
-        × Target (jobsIn shape (now rows)) (shape .cores) (shape .jobs) (shape .capacity) (now half) (now heads) n × Observed (shape .jobs) (now seen) ⌝ }
+        × Target (jobsIn shape (now rows)) shape (now half) (now heads) n × Observed (shape .jobs) (now seen) × Linkable shape (now cur) ⌝ }
     ensures { λ r. ⌜ Leaves (jobsIn shape (now (rows .entry))) shape
         (λ c. tryJobs (jobsIn shape (now (rows .entry))) (shape .capacity) (stateIn shape (now (cur .entry))) (shape .jobs)
         (goingIn shape (now (half .entry)) n (now (seen .entry)) c)) r (now (half .exit)) (now (seen .exit)) (now (heads .exit)) ⌝ }
@@ -82,14 +85,15 @@ pub fn try_state(
     let shared = survey(rows, k, cur, m, &list[..listed], &mut holders);
     let held = shared.holders;
     let bound = shared.bound;
-    let mut new = [0u32; MOST_STATE_WORDS];
+    let mut front = [0u32; MOST_FRONT_WORDS];
+    copy_front(&mut front, cur, m);
     let mut stored = n;
     let mut at = 0;
     while at < listed {
         let i = list[at] as usize;
         let edge = edge_of(rows, k, cur, m, sets, &holders[..held], bound, i);
         observe_edge(seen, k, edge);
-        let progress = follow(half, heads, stored, rows, cur, &mut new, shape, edge);
+        let progress = follow(half, heads, stored, rows, cur, &front, shape, edge);
         let Progress::Going(x) = progress else {
             return progress;
         };

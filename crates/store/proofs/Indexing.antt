@@ -1,108 +1,82 @@
--- The index of a level: what it says of the states, and how it is kept while they are stored. Assumes nothing.
-use Prim.Native.Nat.{ℕ, _+_, _^_, _≤_, _<_}
+-- What the index of a level is for, and the range of buckets. Assumes nothing.
+use Prim.Native.Nat.{ℕ, suc, _+_, _*_, _/_, _^_, _≤_, _<_}
 use mathlib.Core.Path.{_≡_, refl, sym, ap, _∙_, subst}
 use mathlib.Core.Logic.{⊎-elim}
-use mathlib.Core.Bool.{Bool, true, false}
+use mathlib.Core.Bool.{Bool, true, false, cond}
 use mathlib.Core.List.{List}
-use native.Mathlib.Nat.{mod-lt, le-of-suc-le-suc, lt-of-not-le, eq-or-lt-of-le}
-use native.Mathlib.Decide.{ℕ-discrete}
+use native.Mathlib.Nat.{mod-lt, mul-le-mul-right}
 use native.Mathlib.Omega.{arith}
 use lib.Dec.{ltb}
-use lib.ListN.{length, getD, set, length-set}
-use lib.Seq.{getD-set-same, getD-set-other}
-use borrow.Author.Count.{below-more}
-use borrow.Author.Tests.{ltb-true, ltb-false}
-use Rattle.model.specs.Exploration.{mergeable}
+use lib.ListN.{getD}
+use borrow.Author.Tests.{ltb-true, ltb-false, lt-ltb, le-ltb, le-leb, lt-leb}
+use Rattle.model.specs.Exploration.{mergeable, stateWords}
 use Rattle.states.specs.internal.Slots.{setOf, stateOf, slotOf}
+use Rattle.links.specs.internal.Spare.{headOf}
 use Rattle.states.proofs.Merges.{mergeable-set}
-use Rattle.store.specs.internal.Half.{SetsFit, NoneMerges, buckets, bucketOf, bucketAt, lastHead, headOf, Indexed, FirstOf, NextOfSet}
+use Rattle.store.specs.internal.Half.{SetsFit, NoneMerges, NextOfSet}
+use Rattle.store.specs.internal.Chains.{FirstFrom, leads, Chains, LastBefore}
+use Rattle.store.specs.internal.Index.{bucketOf, bucketAt, slotHead, headRoom, headAt, Fits}
+use Rattle.store.specs.declared.Index.{Index}
+use Rattle.store.proofs.Storing.{slot-fits}
+use Rattle.store.proofs.Chains.{head-past, head-elsewhere, head-first, next-last}
+
+-- a fraction of the buckets is one of them
+scaled : (buckets y : ℕ) → y < 4294967296 → 0 < buckets → y * buckets / 4294967296 < buckets
+scaled buckets y l h = omega (arith, mul-le-mul-right {m = y} {n = 4294967295} buckets (omega (arith, l)), h)
 
 -- every set has a bucket
-pub bucket-inside : (x : ℕ) → bucketOf x < buckets
+pub bucket-inside : (buckets x : ℕ) → 0 < buckets → bucketOf buckets x < buckets
 unfolding bucketOf
-bucket-inside x = mod-lt _ (omega arith)
+bucket-inside buckets x h = scaled buckets _ (mod-lt _ (omega arith)) h
 
--- a level without states has any index
-pub nothing-indexed : (m k : ℕ) (ws heads : List ℕ) → length heads ≡ buckets → Indexed m k ws 0 heads
-nothing-indexed m k ws heads l = record { long = l; not-after = λ j h. absurd (omega (arith, h)); in-place = λ j h g. absurd (omega (arith, h)) }
+-- ---- where a head stands
 
-module _ (m k : ℕ) (ws : List ℕ) (n : ℕ) (heads : List ℕ) (index : Indexed m k ws n heads) where
-  -- ---- the first state of a bucket
+module _ (m k : ℕ) (index : Index) (ws heads : List ℕ) (used b : ℕ) where
+  pub head-in-heads : index .buckets ≤ headRoom → headAt m k index ws heads used b ≡ getD heads b 0
+  head-in-heads h = ap (λ (t : Bool). cond t (getD heads b 0) (slotHead m k ws used b)) (le-leb (index .buckets) headRoom h)
 
-  module _ (b : ℕ) where
-    head-of : (j : ℕ) → j < n → bucketAt m k ws j ≡ b → (getD heads b 0 ≤ j) × (getD heads b 0 < lastHead → bucketAt m k ws (getD heads b 0) ≡ b)
-    head-of j h e =
-        subst (λ (z : ℕ). (getD heads z 0 ≤ j) × (getD heads z 0 < lastHead → bucketAt m k ws (getD heads z 0) ≡ z)) e (index .not-after j h, index .in-place j h)
+  in-slot : headRoom < index .buckets → headAt m k index ws heads used b ≡ slotHead m k ws used b
+  in-slot h = ap (λ (t : Bool). cond t (getD heads b 0) (slotHead m k ws used b)) (lt-leb (index .buckets) headRoom h)
 
-    -- a head past the states says that its bucket is empty
-    pub no-slot : n ≤ getD heads b 0 → FirstOf m k ws n b n
-    no-slot h = record { inside = omega arith; none-before = λ j g e. omega (arith, head-of j g e .0, g); is-first = λ g. absurd (omega (arith, g)) }
+  pub head-in-state : headRoom < index .buckets → b < used → headAt m k index ws heads used b ≡ headOf m k (slotOf m k ws b)
+  head-in-state h g =
+      in-slot h ∙ ap (λ (t : Bool). cond t (headOf m k (slotOf m k ws b)) (getD ws (b * stateWords m k) 0)) (lt-ltb b used g)
 
-    -- and so does a head of another bucket
-    pub other-bucket : getD heads b 0 < lastHead → (bucketAt m k ws (getD heads b 0) ≡ b → ⊥) → FirstOf m k ws n b n
-    other-bucket l d = record { inside = omega arith; none-before = λ j g e. d (head-of j g e .1 l); is-first = λ g. absurd (omega (arith, g)) }
+  pub head-in-free : headRoom < index .buckets → used ≤ b → headAt m k index ws heads used b ≡ getD ws (b * stateWords m k) 0
+  head-in-free h g =
+      in-slot h ∙ ap (λ (t : Bool). cond t (headOf m k (slotOf m k ws b)) (getD ws (b * stateWords m k) 0)) (le-ltb b used g)
 
-    -- else no state of the bucket stands before the head, and, but for the last head, the head is one
-    pub head-is-first : getD heads b 0 < n → (getD heads b 0 < lastHead → bucketAt m k ws (getD heads b 0) ≡ b) → FirstOf m k ws n b (getD heads b 0)
-    head-is-first h e = record { inside = omega arith; none-before = λ j g q. omega (arith, head-of j (omega (arith, g)) q .0, g); is-first = λ g. e }
+-- the slot of a bucket whose head stands in one lies in the half
+pub slot-of-bucket : (m k words : ℕ) (index : Index) (b : ℕ) → Fits m k words index → headRoom < index .buckets → b < index .buckets
+    → b * stateWords m k + stateWords m k ≤ words
+slot-of-bucket m k words index b fits h l =
+    omega (arith, slot-fits b (index .linked) (stateWords m k) (omega (arith, l, fits .in-slots h)), fits .inside)
 
-  -- ---- the index is kept
+-- ---- the first state of a bucket, by its head
 
-  -- it depends on the sets alone
-  pub indexed-same : (vs : List ℕ) → ((i : ℕ) → i < n → setOf (slotOf m k vs i) ≡ setOf (slotOf m k ws i)) → Indexed m k vs n heads
-  indexed-same vs same =
-      record {
-        long = index .long;
-        not-after = λ j h. subst (λ (z : ℕ). getD heads (bucketOf z) 0 ≤ j) (sym (same j h)) (index .not-after j h);
-        in-place = λ j h g.
-            let e : bucketAt m k vs j ≡ bucketAt m k ws j = ap bucketOf (same j h) in
-            ap (λ (z : ℕ). bucketAt m k vs (getD heads z 0)) e ∙ ap bucketOf (same (getD heads (bucketAt m k ws j) 0) (omega (arith, index .not-after j h, h)))
-            ∙ index .in-place j h (subst (λ (z : ℕ). getD heads z 0 < lastHead) e g) ∙ sym e;
-      }
+module _ {c : ℕ} {β η link : ℕ → ℕ} (chains : Chains c β η link) (b r : ℕ) (e : r ≡ η b) where
+  pub past : c ≤ r → FirstFrom c β b 0 c
+  past h = head-past chains b (omega (arith, e, h))
 
-  -- one state more: the head of its bucket is the bucket's first state, which may be this one
-  module _ (vs : List ℕ) (x r : ℕ) (kept : (i : ℕ) → i < n → slotOf m k vs i ≡ slotOf m k ws i) (last : setOf (slotOf m k vs n) ≡ x) (first : FirstOf m k ws n (bucketOf x) r) where
-    same : (i : ℕ) → i < n → bucketAt m k vs i ≡ bucketAt m k ws i
-    same i h = ap (λ (z : List ℕ). bucketOf (setOf z)) (kept i h)
+  pub elsewhere : (β r ≡ b → ⊥) → FirstFrom c β b 0 c
+  elsewhere d = head-elsewhere chains b (λ q. d (ap β e ∙ q))
 
-    of-last : bucketAt m k vs n ≡ bucketOf x
-    of-last = ap bucketOf last
+  pub at-head : r < c → β r ≡ b → FirstFrom c β b 0 r
+  at-head h q = subst (λ (z : ℕ). FirstFrom c β b 0 z) (sym e) (head-first chains b (omega (arith, e, h)) (ap β (sym e) ∙ q))
 
-    before : Indexed m k vs n heads
-    before = indexed-same vs (λ i h. ap setOf (kept i h))
+-- ---- along a chain
 
-    -- the index, once a state is added
-    pub indexed-more : Indexed m k vs (n + 1) (set heads (bucketOf x) (headOf r))
-    indexed-more =
-        let each = below-more Good n (λ j h. earlier j h (ℕ-discrete (bucketAt m k vs j) (bucketOf x))) (its-own n (first .inside) of-last) in
-        record { long = length-set heads (bucketOf x) (headOf r) ∙ index .long; not-after = λ j h. each j h .0; in-place = λ j h. each j h .1 }
-      where
-        heads′ : List ℕ
-        heads′ = set heads (bucketOf x) (headOf r)
+-- r is where the link of state j, one of bucket b, leads to
+module _ {c : ℕ} {β η link : ℕ → ℕ} (chains : Chains c β η link) (b j r : ℕ) (e : r ≡ leads c j (link j)) (h : j < c) (q : β j ≡ b) where
+  pub next-one : FirstFrom c β b (suc j) r
+  next-one = subst (λ (z : ℕ). FirstFrom c β z (suc j) r) q (subst (λ (z : ℕ). FirstFrom c β (β j) (suc j) z) (sym e) (chains .onward j h))
 
-        Good : ℕ → Type 0
-        Good j =
-            (getD heads′ (bucketAt m k vs j) 0 ≤ j)
-            × (getD heads′ (bucketAt m k vs j) 0 < lastHead → bucketAt m k vs (getD heads′ (bucketAt m k vs j) 0) ≡ bucketAt m k vs j)
+  pub last-one : LastBefore c β b r j
+  last-one = subst (λ (z : ℕ). LastBefore c β b z j) (sym e) (next-last chains j h q)
 
-        head : getD heads′ (bucketOf x) 0 ≡ headOf r
-        head = getD-set-same heads (bucketOf x) (headOf r) 0 (omega (arith, index .long, bucket-inside x))
-
-        stands : r < lastHead → bucketAt m k vs r ≡ bucketOf x
-        stands l = ⊎-elim (λ e. ap (bucketAt m k vs) e ∙ of-last) (λ h. same r h ∙ first .is-first h l) (eq-or-lt-of-le (first .inside))
-
-        its-own : (j : ℕ) → r ≤ j → bucketAt m k vs j ≡ bucketOf x → Good j
-        its-own j h e =
-            subst (λ (z : ℕ). (getD heads′ z 0 ≤ j) × (getD heads′ z 0 < lastHead → bucketAt m k vs (getD heads′ z 0) ≡ z)) (sym e) (
-              omega (arith, head, h),
-              λ g. let q : getD heads′ (bucketOf x) 0 ≡ r = omega (arith, head, g) in ap (bucketAt m k vs) q ∙ stands (omega (arith, q, g)),
-            )
-
-        earlier : (j : ℕ) → j < n → Dec (bucketAt m k vs j ≡ bucketOf x) → Good j
-        earlier j h (yes e) = its-own j (le-of-suc-le-suc (lt-of-not-le (λ g. first .none-before j g (sym (same j h) ∙ e)))) e
-        earlier j h (no d) =
-            let o = getD-set-other heads (bucketOf x) (bucketAt m k vs j) (headOf r) 0 d in
-            (subst (λ (z : ℕ). z ≤ j) (sym o) (before .not-after j h), λ g. ap (bucketAt m k vs) o ∙ before .in-place j h (omega (arith, o, g)))
+-- the state that a last one stands before is of its bucket
+pub last-is-one : {c : ℕ} {β : ℕ → ℕ} {b j last : ℕ} → LastBefore c β b j last → j < c → β j ≡ b
+last-is-one l h = ⊎-elim (λ p. p .1 .is-one h) (λ p. p .1 .1 .is-one h) l
 
 -- ---- what it is for: a state of another set cannot merge, so neither can one of another bucket
 
@@ -114,9 +88,13 @@ module _ (m k : ℕ) (half new : List ℕ) (n : ℕ) (fit : SetsFit m k half n) 
       go true e = absurd (d (mergeable-set m k (slotOf m k half j) new (fit j h) inside e))
       go false e = refl
 
-  -- no state before the first of its bucket merges with the new one
-  pub none-merges : (r : ℕ) → FirstOf m k half n (bucketOf (setOf new)) r → NoneMerges m k half new r
-  none-merges r first j h = other-set j (omega (arith, h, first .inside)) (λ e. first .none-before j h (ap bucketOf e))
+  -- no state up to the next of its bucket merges with the new one, where none does so far
+  pub none-merges : (buckets from r : ℕ) → FirstFrom n (bucketAt buckets m k half) (bucketOf buckets (setOf new)) from r → NoneMerges m k half new from → NoneMerges m k half new r
+  none-merges buckets from r first none j h = go (ltb j from) refl
+    where
+      go : (c : Bool) → ltb j from ≡ c → mergeable (stateOf m k (slotOf m k half j)) (stateOf m k new) ≡ false
+      go true e = none j (ltb-true j from e)
+      go false e = other-set j (omega (arith, h, first .inside)) (λ q. first .none-between j (ltb-false j from e) h (ap (bucketOf buckets) q))
 
   -- and none up to the next of its set, where none does so far
   pub none-merges-on : (from r : ℕ) → NextOfSet m k half n from (setOf new) r → NoneMerges m k half new from → NoneMerges m k half new r

@@ -9,7 +9,7 @@ use native.Mathlib.Numerals.{add-one, lt-of-le-of-ne}
 use native.Mathlib.Decide.{ℕ-discrete}
 use native.Mathlib.Omega.{arith}
 use lib.Dec.{ltb}
-use lib.ListN.{length, take, getD, set, length-set, length-append}
+use lib.ListN.{length, getD, set, length-set, length-append}
 use lib.Seq.{getD-set-same, getD-set-other}
 use borrow.Author.Count.{below-more}
 use borrow.Author.Tests.{ltb-true, ltb-false, lt-ltb, le-ltb}
@@ -22,9 +22,8 @@ use Rattle.model.proofs.Bounds.{merge-bounded}
 use Rattle.words.proofs.Tabulate.{length-tabulate, getD-tabulate, tabulate-ext, tabulate-is, tabulate-snoc}
 use Rattle.words.proofs.Parts.{part-same, part-before, part-after}
 use Rattle.states.specs.internal.Slots.{setOf, stateOf, slotOf, statesOf, Sound, AllSound}
-use Rattle.states.proofs.Frames.{take-set, take-state}
 use Rattle.states.proofs.Merges.{mergeable-set}
-use Rattle.store.specs.internal.Half.{levelOf, SoundAt, SetsFit, NoneMerges, FirstMerging, OthersKept}
+use Rattle.store.specs.internal.Half.{levelOf, SoundAt, SetsFit, NoneMerges, FirstMerging, OthersKept, KeptAt, Put, MergedAt}
 use Rattle.store.specs.declared.Stored.{Stored}
 use Rattle.store.specs.declared.Stored.the-variants.{At, Full}
 
@@ -81,16 +80,17 @@ module _ (m k : ℕ) (ws : List ℕ) (n : ℕ) where
 
   module _ (vs : List ℕ) (τ : State) where
     -- one state in the place of another
-    states-set : (j : ℕ) → j < n → stateOf m k (slotOf m k vs j) ≡ τ → ((i : ℕ) → i < n → (i ≡ j → ⊥) → slotOf m k vs i ≡ slotOf m k ws i) → statesOf m k vs n ≡ set (statesOf m k ws n) j τ
+    states-set : (j : ℕ) → j < n → stateOf m k (slotOf m k vs j) ≡ τ → ((i : ℕ) → i < n → (i ≡ j → ⊥) → KeptAt m k ws vs i)
+        → statesOf m k vs n ≡ set (statesOf m k ws n) j τ
     unfolding statesOf
     states-set j h e g = tabulate-is (λ (i : ℕ). stateOf m k (slotOf m k vs i)) n (set (statesOf m k ws n) j τ) τ (length-set (statesOf m k ws n) j τ ∙ states-length) (λ i b. go i b (ℕ-discrete i j))
       where
         go : (i : ℕ) → i < n → Dec (i ≡ j) → stateOf m k (slotOf m k vs i) ≡ getD (set (statesOf m k ws n) j τ) i τ
         go i b (yes p) = rw (p, e) (sym (getD-set-same (statesOf m k ws n) j τ τ (omega (arith, states-length))))
-        go i b (no p) = ap (stateOf m k) (g i b p) ∙ sym (getD-set-other (statesOf m k ws n) j i τ τ p ∙ state-at i τ b)
+        go i b (no p) = g i b p .state ∙ sym (getD-set-other (statesOf m k ws n) j i τ τ p ∙ state-at i τ b)
 
     -- one state more
-    states-more : stateOf m k (slotOf m k vs n) ≡ τ → ((i : ℕ) → i < n → slotOf m k vs i ≡ slotOf m k ws i) → statesOf m k vs (n + 1) ≡ statesOf m k ws n ++ (τ ∷ [])
+    states-more : stateOf m k (slotOf m k vs n) ≡ τ → ((i : ℕ) → i < n → KeptAt m k ws vs i) → statesOf m k vs (n + 1) ≡ statesOf m k ws n ++ (τ ∷ [])
     unfolding statesOf
     states-more e g =
         let f : ℕ → State = λ i. stateOf m k (slotOf m k vs i) in
@@ -99,7 +99,7 @@ module _ (m k : ℕ) (ws : List ℕ) (n : ℕ) where
           tabulate-snoc f 0 n,
           zero-add n,
           e,
-          tabulate-ext f (λ (i : ℕ). stateOf m k (slotOf m k ws i)) 0 n (λ i b. ap (stateOf m k) (g (0 + i) (omega arith))),
+          tabulate-ext f (λ (i : ℕ). stateOf m k (slotOf m k ws i)) 0 n (λ i b. g (0 + i) (omega arith) .state),
         ) refl
 
 -- ---- what storing leaves
@@ -116,20 +116,18 @@ module _ (m k : ℕ) (half new : List ℕ) (n cap : ℕ) (room : cap * stateWord
       ((seen : List Range) (c : ℕ) → levelOf m k state seen c r out ≡ limited cap state (stored state states) seen c)
       × ((js : List Job) → AllSound js m k half n → Sound js m k new → SoundAt js m k cap r out)
 
-  kept : (i j : ℕ) (out : List ℕ) → OthersKept m k j half out → i < n → (i ≡ j → ⊥) → slotOf m k out i ≡ slotOf m k half i
-  kept i j out o b ne = o i ne (omega (arith, slot-fits i cap (stateWords m k) (omega arith)))
+  -- a state added behind leaves those before it, and a merge all but one
+  kept : (i j : ℕ) (out : List ℕ) → OthersKept m k j half out → i < n → (i ≡ j → ⊥) → KeptAt m k half out i
+  kept i j out o b ne =
+      let e = o i ne (omega (arith, slot-fits i cap (stateWords m k) (omega arith))) in
+      record { set = ap setOf e; state = ap (stateOf m k) e }
 
-  -- a state added behind leaves those before it
-  pub slots-kept : (out : List ℕ) → OthersKept m k n half out → (i : ℕ) → i < n → slotOf m k out i ≡ slotOf m k half i
+  pub slots-kept : (out : List ℕ) → OthersKept m k n half out → (i : ℕ) → i < n → KeptAt m k half out i
   slots-kept out o i g = kept i n out o g (λ (z : i ≡ n). omega (arith, z, g))
 
-  -- a merge keeps every set
-  pub sets-kept : (j : ℕ) (out : List ℕ) → setOf (slotOf m k out j) ≡ setOf (slotOf m k half j) → OthersKept m k j half out → (i : ℕ) → i < n → setOf (slotOf m k out i) ≡ setOf (slotOf m k half i)
-  sets-kept j out e o i b = go (ℕ-discrete i j)
-    where
-      go : Dec (i ≡ j) → setOf (slotOf m k out i) ≡ setOf (slotOf m k half i)
-      go (yes z) = rw z e
-      go (no z) = ap setOf (kept i j out o b z)
+  -- what is kept is sound
+  sound-kept : (js : List Job) (i : ℕ) (out : List ℕ) → KeptAt m k half out i → Sound js m k (slotOf m k half i) → Sound js m k (slotOf m k out i)
+  sound-kept js i out same s = record { set-fits = rw (same .set) (s .set-fits); bounded = rw (same .state) (s .bounded) }
 
   in-room : (out : List ℕ) (count : ℕ) → statesOf m k out count ≡ stored state states → count ≤ cap → (seen : List Range) (c : ℕ) → going (statesOf m k out count) seen c ≡ limited cap state (stored state states) seen c
   unfolding limited
@@ -138,13 +136,13 @@ module _ (m k : ℕ) (half new : List ℕ) (n cap : ℕ) (room : cap * stateWord
       rw (le-ltb cap (length (stored state states)) l, e) refl
 
   -- what a merge leaves is the level that the definition stores
-  pub merged-result : (j : ℕ) (out : List ℕ) → FirstMerging m k half n new j → j < n → stateOf m k (slotOf m k out j) ≡ merge (stateOf m k (slotOf m k half j)) state
-      → setOf (slotOf m k out j) ≡ setOf new → OthersKept m k j half out → Result (At n) out
-  merged-result j out f h p q o = (in-room out n level most, λ js a s. (most, λ i b. sound js a s i b (ℕ-discrete i j)))
+  pub merged-result : (j : ℕ) (out : List ℕ) → FirstMerging m k half n new j → j < n → MergedAt m k half new out j → OthersKept m k j half out
+      → Result (At n) out
+  merged-result j out f h p o = (in-room out n level most, λ js a s. (most, λ i b. sound js a s i b (ℕ-discrete i j)))
     where
       level : statesOf m k out n ≡ stored state states
       level =
-          states-set m k half n out (merge (stateOf m k (slotOf m k half j)) state) j h p (λ i b ne. kept i j out o b ne)
+          states-set m k half n out (merge (stateOf m k (slotOf m k half j)) state) j h (p .state) (λ i b ne. kept i j out o b ne)
           ∙ ap (λ (τ : State). set states j (merge τ state)) (sym (state-at m k half n j state h))
           ∙ sym (stored-merged state states j state (omega (arith, states-length m k half n))
           (λ i b. ap (λ (τ : State). mergeable τ state) (state-at m k half n i state (omega arith)) ∙ f .none-before i b)
@@ -152,25 +150,23 @@ module _ (m k : ℕ) (half new : List ℕ) (n cap : ℕ) (room : cap * stateWord
 
       sound : (js : List Job) → AllSound js m k half n → Sound js m k new → (i : ℕ) → i < n → Dec (i ≡ j) → Sound js m k (slotOf m k out i)
       sound js a s i b (yes z) =
-          rw z (record { set-fits = rw q (s .set-fits); bounded = rw p (merge-bounded js latestTime (stateOf m k (slotOf m k half j)) state (a j h .bounded) (s .bounded)) })
-      sound js a s i b (no z) = rw (kept i j out o b z) (a i b)
+          rw z (record { set-fits = rw (p .set) (a j h .set-fits); bounded = rw (p .state) (merge-bounded js latestTime (stateOf m k (slotOf m k half j)) state (a j h .bounded) (s .bounded)) })
+      sound js a s i b (no z) = sound-kept js i out (kept i j out o b z) (a i b)
 
   module _ (none : NoneMerges m k half new n) where
     last : stored state states ≡ states ++ (state ∷ [])
     last = stored-last state states state (λ i b. let b₁ : i < n = omega (arith, b, states-length m k half n) in ap (λ (τ : State). mergeable τ state) (state-at m k half n i state b₁) ∙ none i b₁)
 
     -- so is what adding the state leaves
-    pub added-result : (out : List ℕ) → n < cap → slotOf m k out n ≡ take (stateWords m k) new → OthersKept m k n half out → Result (At (n + 1)) out
-    added-result out b p o = (in-room out (n + 1) level (omega arith), λ js a s. (omega arith, below-more (λ (i : ℕ). Sound js m k (slotOf m k out i)) n (λ i g. rw (same i g) (a i g)) (sound js s)))
+    pub added-result : (out : List ℕ) → n < cap → Put m k new out n → ((i : ℕ) → i < n → KeptAt m k half out i) → Result (At (n + 1)) out
+    added-result out b p same =
+        (in-room out (n + 1) level (omega arith), λ js a s. (omega arith, below-more (λ (i : ℕ). Sound js m k (slotOf m k out i)) n (λ i g. sound-kept js i out (same i g) (a i g)) (sound js s)))
       where
-        same : (i : ℕ) → i < n → slotOf m k out i ≡ slotOf m k half i
-        same = slots-kept out o
-
         level : statesOf m k out (n + 1) ≡ stored state states
-        level = states-more m k half n out state (ap (stateOf m k) p ∙ take-state m k new) same ∙ sym last
+        level = states-more m k half n out state (p .state) same ∙ sym last
 
         sound : (js : List Job) → Sound js m k new → Sound js m k (slotOf m k out n)
-        sound js s = rw p (record { set-fits = rw (take-set m k new) (s .set-fits); bounded = rw (take-state m k new) (s .bounded) })
+        sound js s = record { set-fits = rw (p .set) (s .set-fits); bounded = rw (p .state) (s .bounded) }
 
     -- and with no room, the level is full
     pub full-result : cap ≤ n → Result Full half

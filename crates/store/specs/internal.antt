@@ -1,2 +1,4 @@
 -- Vocabulary of internal contracts: no public contract cites it.
 pub mod Half
+pub mod Chains
+pub mod Index

@@ -1,56 +1,47 @@
 -- `store::first_of` meets its contract. Assumes nothing.
-use Prim.Native.Nat.{ℕ, _+_, _*_, _-_, _≤_}
+use Prim.Native.Nat.{ℕ, _+_, _*_, _-_, _≤_, _<_}
 use mathlib.Core.Path.{_≡_, sym, ap, _∙_}
 use native.Mathlib.Omega.{arith}
-use lib.ListN.{getD, length}
+use lib.ListN.{length}
 use denote.Ref.{now}
 use borrow.Author.Needs.{needs}
 use Rattle.model.specs.Exploration.{stateWords}
 use Rattle.states.specs.internal.Slots.{setOf, slotOf}
-use Rattle.store.specs.internal.Half.{bucketOf}
+use Rattle.store.specs.internal.Index.{bucketOf, bucketAt}
 use Rattle.store.proofs.Storing.{slot-fits}
-use Rattle.store.proofs.Indexing.{bucket-inside, no-slot, other-bucket, head-is-first}
+use Rattle.store.proofs.Indexing.{bucket-inside, past, elsewhere, at-head}
 use Rattle.store.proofs.first_of.Statement.{statement}
 use Rattle.store.proofs.first_of.Tie as tie
 
-mul-head : tie.Need-mul-head
-mul-head c = omega (arith, c .before .before .pre .3, bucket-inside (c .before .before .args .set))
-
-shared-slice-read-head : tie.Need-shared-slice-read-head
-shared-slice-read-head c =
-    let a = c .before .before .before in
-    omega (arith, a .pre .3, bucket-inside (a .args .set), a .pre .4 .long)
-
-cast-head : tie.Need-cast-head
-cast-head c = omega (arith, c .shared-slice-known3 .given (c .before .before .before .args .b))
-
 returns : tie.Need-returns
-returns c =
-    let a = c .before .before .before .before in
-    no-slot (a .args .m) (a .args .k) (now (a .args .half)) (a .args .n) (now (a .args .heads)) (a .pre .4) (a .args .b) (c .if1 .taken)
+returns c = search needs
+
+head-at-requires : tie.Need-head-at-requires
+head-at-requires c κs =
+    let a = c .before .before .before in
+    let some : 0 < a .args .index .buckets = a .pre .2 .some (omega (arith, a .pre .5, c .if1 .left)) in
+    (a .pre .0, a .pre .1, a .pre .2, a .pre .3, a .pre .4, omega (arith, a .pre .6, bucket-inside (a .args .index .buckets) (a .args .set) some))
+
+-- the words on entry
+abbrev entry : tie.After-head-at → tie.Start
+entry c = c .before .before .before .before
 
 returns-2 : tie.Need-returns-2
-returns-2 c =
-    let a = c .before .before .before .before .before in
-    head-is-first (a .args .m) (a .args .k) (now (a .args .half)) (a .args .n) (now (a .args .heads)) (a .pre .4) (a .args .b) (c .before .if1 .left) (λ g. absurd (omega (arith, g, c .if2 .taken)))
+returns-2 c = past (entry (c .before) .pre .7) (entry (c .before) .args .b) (c .before .head-at .result) (c .before .head-at .ensures) (c .if2 .taken)
 
 state-words-requires : tie.Need-state-words-requires
 state-words-requires c κs = search needs
 
--- the words on entry
-abbrev entry : tie.After-state-words → tie.Start
-entry c = c .before .before .before .before .before .before
-
 -- the head's slot lies in the half
-within : (c : tie.After-state-words) → getD (now (entry c .args .heads)) (entry c .args .b) 0 * c .state-words .result + c .state-words .result ≤ length (now (entry c .args .half))
+within : (c : tie.After-state-words) → c .before .before .head-at .result * c .state-words .result + c .state-words .result ≤ length (now (entry (c .before .before) .args .half))
 within c =
-    let a = entry c in
-    let head = getD (now (a .args .heads)) (a .args .b) 0 in
+    let a = entry (c .before .before) in
+    let head = c .before .before .head-at .result in
     omega (
       arith,
       ap (λ (z : ℕ). head * z + z) (c .state-words .ensures),
-      slot-fits head (a .args .n) (stateWords (a .args .m) (a .args .k)) (c .before .before .if1 .left),
-      a .pre .2,
+      slot-fits head (a .args .index .linked) (stateWords (a .args .m) (a .args .k)) (omega (arith, c .before .if2 .left, a .pre .5)),
+      a .pre .2 .inside,
     )
 
 mul-at : tie.Need-mul-at
@@ -74,48 +65,51 @@ part-started-set-end c = omega (arith, within c)
 started-set-requires : tie.Need-started-set-requires
 started-set-requires c κs = search needs
 
--- the words on entry
-abbrev entry-tested : tie.After-started-set → tie.Start
-entry-tested c = c .before .before .before .before .before .before .before .before
+-- the place of the head
+abbrev headed : tie.After-started-set → tie.After-head-at
+headed c = c .before .before .before .before
 
 -- the set of the state that stands there
-found : (c : tie.After-started-set) → c .started-set .result ≡ setOf (slotOf (entry-tested c .args .m) (entry-tested c .args .k) (now (entry-tested c .args .half)) (getD (now (entry-tested c .args .heads)) (entry-tested c .args .b) 0))
+found : (c : tie.After-started-set)
+    → c .started-set .result ≡ setOf (slotOf (entry (headed c) .args .m) (entry (headed c) .args .k) (now (entry (headed c) .args .half)) (headed c .head-at .result))
 found c =
-    let a = entry-tested c in
+    let a = entry (headed c) in
     let W = stateWords (a .args .m) (a .args .k) in
-    let h = getD (now (a .args .heads)) (a .args .b) 0 in
+    let h = headed c .head-at .result in
     let p : h * W + W - h * W ≡ W = omega arith in
     rw (c .before .before .state-words .ensures, p) at (c .started-set .ensures)
 
 returns-3 : tie.Need-returns-3
 returns-3 c =
-    let a = c .before .before .before .before .before .before .before .before .before in
-    head-is-first (a .args .m) (a .args .k) (now (a .args .half)) (a .args .n) (now (a .args .heads)) (a .pre .4) (a .args .b) (c .before .before .before .before .before .if1 .left)
-    (λ g. ap bucketOf (sym (found (c .before)) ∙ c .if3 .taken) ∙ sym (a .pre .3))
+    let a = entry (headed (c .before)) in
+    at-head (a .pre .7) (a .args .b) (headed (c .before) .head-at .result) (headed (c .before) .head-at .ensures) (c .before .before .before .before .if2 .left)
+    (ap (bucketOf (a .args .index .buckets)) (sym (found (c .before)) ∙ c .if3 .taken) ∙ sym (a .pre .6))
 
 bucket-of-requires : tie.Need-bucket-of-requires
 bucket-of-requires c κs = search needs
 
+-- its bucket
+found-bucket : (c : tie.After-bucket-of)
+    → c .bucket-of .result
+    ≡ bucketAt (entry (headed (c .before .before)) .args .index .buckets) (entry (headed (c .before .before)) .args .m) (entry (headed (c .before .before)) .args .k) (now (entry (headed (c .before .before)) .args .half)) (headed (c .before .before) .head-at .result)
+found-bucket c = c .bucket-of .ensures ∙ ap (bucketOf (entry (headed (c .before .before)) .args .index .buckets)) (found (c .before .before))
+
 returns-4 : tie.Need-returns-4
 returns-4 c =
-    let a = c .before .before .before .before .before .before .before .before .before .before .before in
-    other-bucket (a .args .m) (a .args .k) (now (a .args .half)) (a .args .n) (now (a .args .heads)) (a .pre .4) (a .args .b) (c .before .before .before .before .before .before .if2 .left)
-    (λ e. c .if4 .taken (c .before .bucket-of .ensures ∙ ap bucketOf (found (c .before .before .before)) ∙ e))
+    let h = headed (c .before .before .before) in
+    elsewhere (entry h .pre .7) (entry h .args .b) (h .head-at .result) (h .head-at .ensures) (λ e. c .if4 .taken (found-bucket (c .before) ∙ e))
 
 returns-5 : tie.Need-returns-5
 returns-5 c =
-    let a = c .before .before .before .before .before .before .before .before .before .before .before in
-    head-is-first (a .args .m) (a .args .k) (now (a .args .half)) (a .args .n) (now (a .args .heads)) (a .pre .4) (a .args .b) (c .before .before .before .before .before .before .before .if1 .left)
-    (λ g. sym (c .before .bucket-of .ensures ∙ ap bucketOf (found (c .before .before .before))) ∙ c .if4 .left)
+    let h = headed (c .before .before .before) in
+    at-head (entry h .pre .7) (entry h .args .b) (h .head-at .result) (h .head-at .ensures) (c .before .before .before .before .before .before .if2 .left) (sym (found-bucket (c .before)) ∙ c .if4 .left)
 
 pub first-of-spec : {M : Type 1} → statement M
 first-of-spec =
     tie.close
     (tie.spec
-    mul-head
-    shared-slice-read-head
-    cast-head
     returns
+    head-at-requires
     returns-2
     state-words-requires
     mul-at

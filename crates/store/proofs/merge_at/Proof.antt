@@ -1,13 +1,11 @@
 -- `store::merge_at` meets its contract. Assumes nothing.
-use Prim.Native.Nat.{_+_, _*_, _-_, _≤_}
-use mathlib.Core.Path.{_≡_, ap, _∙_}
+use Prim.Native.Nat.{_+_, _*_, _≤_}
+use mathlib.Core.Path.{ap, _∙_}
 use native.Mathlib.Omega.{arith}
 use lib.ListN.{length}
 use denote.Ref.{now}
-use Rattle.model.specs.Exploration.{stateWords}
-use Rattle.words.proofs.Parts.{part-length}
-use Rattle.states.specs.internal.Slots.{setOf, stateOf}
-use Rattle.store.proofs.Storing.{slot-same, others-kept}
+use Rattle.states.specs.internal.Slots.{setOf}
+use Rattle.store.proofs.Slots.{lent-slot, lent-length, back-others, back-merged}
 use borrow.Author.Needs.{needs}
 use Rattle.store.proofs.merge_at.Statement.{statement}
 use Rattle.store.proofs.merge_at.Tie as tie
@@ -39,11 +37,12 @@ part-merge-into-end c = omega (arith, within c)
 merge-into-requires : tie.Need-merge-into-requires
 merge-into-requires c κs =
     let a = c .before .before .before .before in
-    let j = a .args .j in
-    let W = stateWords (a .args .m) (a .args .k) in
-    let p : j * W + W - j * W ≡ W = omega arith in
-    let l = part-length (j * W) W (now (a .args .half)) (a .pre .2) in
-    rw (c .before .state-words .ensures, p) (omega (arith, l), a .pre .3, a .pre .4)
+    let m = a .args .m in
+    let k = a .args .k in
+    let half = now (a .args .half) in
+    let e = c .before .state-words .ensures in
+    let w = c .before .state-words .result in
+    (omega (arith, lent-length m k (a .args .j) w e half (a .pre .2)), a .pre .3, ap setOf (lent-slot m k (a .args .j) w e half (a .pre .2)) ∙ a .pre .4)
 
 same-length : tie.Need-same-length
 same-length c = search needs
@@ -55,15 +54,11 @@ returns c =
     let k = a .args .k in
     let j = a .args .j in
     let half = now (a .args .half) in
-    let W = stateWords m k in
     let x = c .before .before .merge-into in
     let e = c .before .before .before .before .state-words .ensures in
-    let p : j * W + W - j * W ≡ W = omega arith in
-    let l : length (x .last .0) ≡ W = rw (e, p) at (x .kept .0) ∙ part-length (j * W) W half (a .pre .2) in
-    let s = slot-same m k half (x .last .0) j (a .pre .2) l in
-    rw (e, p) (
-      (ap (stateOf m k) s ∙ rw (e, p) at (x .ensures .0), ap setOf s ∙ rw (e, p) at (x .ensures .1) ∙ a .pre .4),
-      others-kept m k half (x .last .0) j (a .pre .2) l,
+    let w = c .before .before .before .before .state-words .result in (
+      back-merged m k j w e half (a .pre .2) (x .last .0) (x .kept .0) (now (a .args .new)) (x .ensures .0) (x .ensures .1),
+      back-others m k j w e half (a .pre .2) (x .last .0) (x .kept .0),
     )
 
 pub merge-at-spec : {M : Type 1} → statement M

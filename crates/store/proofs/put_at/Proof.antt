@@ -1,12 +1,11 @@
 -- `store::put_at` meets its contract. Assumes nothing.
-use Prim.Native.Nat.{_+_, _*_, _-_, _≤_}
-use mathlib.Core.Path.{_≡_, _∙_}
+use Prim.Native.Nat.{_+_, _*_, _≤_}
+use mathlib.Core.Path.{ap, _∙_}
 use native.Mathlib.Omega.{arith}
 use lib.ListN.{length}
 use denote.Ref.{now}
-use Rattle.model.specs.Exploration.{stateWords}
-use Rattle.words.proofs.Parts.{part-length}
-use Rattle.store.proofs.Storing.{slot-same, others-kept}
+use Rattle.states.specs.internal.Slots.{setOf, stateOf}
+use Rattle.store.proofs.Slots.{lent-length, back-slot, back-others}
 use borrow.Author.Needs.{needs}
 use Rattle.store.proofs.put_at.Statement.{statement}
 use Rattle.store.proofs.put_at.Tie as tie
@@ -23,47 +22,41 @@ mul-at c = omega (arith, within c)
 add-end : tie.Need-add-end
 add-end c = omega (arith, within c)
 
-mul-copy : tie.Need-mul-copy
-mul-copy c = omega (arith, within c)
+mul-load-state : tie.Need-mul-load-state
+mul-load-state c = omega (arith, within c)
 
-sub-copy : tie.Need-sub-copy
-sub-copy c = search needs
+sub-load-state : tie.Need-sub-load-state
+sub-load-state c = search needs
 
-part-copy-start : tie.Need-part-copy-start
-part-copy-start c = search needs
+part-load-state-start : tie.Need-part-load-state-start
+part-load-state-start c = search needs
 
-part-copy-end : tie.Need-part-copy-end
-part-copy-end c = omega (arith, within c)
+part-load-state-end : tie.Need-part-load-state-end
+part-load-state-end c = omega (arith, within c)
 
-sub-copy-2 : tie.Need-sub-copy-2
-sub-copy-2 c = search needs
-
-part-copy-start-2 : tie.Need-part-copy-start-2
-part-copy-start-2 c = search needs
-
-part-copy-end-2 : tie.Need-part-copy-end-2
-part-copy-end-2 c = search needs
-
-copy-requires : tie.Need-copy-requires
-copy-requires c κs = search needs
+load-state-requires : tie.Need-load-state-requires
+load-state-requires c κs =
+    let a = c .before .before .before .before in
+    let l = lent-length (a .args .m) (a .args .k) (a .args .j) (c .before .state-words .result) (c .before .state-words .ensures) (now (a .args .half)) (a .pre .2) in
+    (a .pre .0, a .pre .1, omega (arith, l), a .pre .3)
 
 same-length : tie.Need-same-length
 same-length c = search needs
 
 returns : tie.Need-returns
 returns c =
-    let a = c .before .before .before .before .before .before .before .before in
+    let a = c .before .before .before .before .before .before .before in
     let m = a .args .m in
     let k = a .args .k in
     let j = a .args .j in
     let half = now (a .args .half) in
-    let W = stateWords m k in
-    let x = c .before .before .copy in
-    let e = c .before .before .before .before .before .state-words .ensures in
-    let p : j * W + W - j * W ≡ W = omega arith in
-    let l : length (x .last .0) ≡ W = rw (e, p) at (x .kept .0) ∙ part-length (j * W) W half (a .pre .2) in
-    let q : W - 0 ≡ W = omega arith in
-    rw (e, p) (slot-same m k half (x .last .0) j (a .pre .2) l ∙ rw (e, q) at (x .ensures), others-kept m k half (x .last .0) j (a .pre .2) l)
+    let x = c .before .before .load-state in
+    let e = c .before .before .before .before .state-words .ensures in
+    let w = c .before .before .before .before .state-words .result in
+    let s = back-slot m k j w e half (a .pre .2) (x .last .0) (x .kept .0) in (
+      record { state = ap (stateOf m k) s ∙ x .ensures .0; set = ap setOf s ∙ x .ensures .1 },
+      back-others m k j w e half (a .pre .2) (x .last .0) (x .kept .0),
+    )
 
 pub put-at-spec : {M : Type 1} → statement M
 put-at-spec =
@@ -72,13 +65,10 @@ put-at-spec =
     state-words-requires
     mul-at
     add-end
-    mul-copy
-    sub-copy
-    part-copy-start
-    part-copy-end
-    sub-copy-2
-    part-copy-start-2
-    part-copy-end-2
-    copy-requires
+    mul-load-state
+    sub-load-state
+    part-load-state-start
+    part-load-state-end
+    load-state-requires
     same-length
     returns)

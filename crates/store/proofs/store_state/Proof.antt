@@ -1,82 +1,71 @@
 -- `store::store_state` meets its contract. Assumes nothing.
-use mathlib.Core.Path.{_≡_, sym, ap, _∙_}
-use native.Mathlib.Nat.{mul-le-mul-right}
+use Prim.Native.Nat.{ℕ, _+_, _≤_, _<_}
+use mathlib.Core.Path.{_≡_, refl, sym, _∙_, subst}
+use mathlib.Core.Logic.{⊎-elim}
+use mathlib.Core.Bool.{true≢false}
+use mathlib.Core.List.{List}
+use native.Mathlib.Nat.{mul-le-mul-right, lt-of-not-le}
 use native.Mathlib.Omega.{arith}
+use lib.ListN.{length}
 use denote.Ref.{now}
 use borrow.Author.Needs.{needs}
 use Rattle.model.specs.Exploration.{stateWords}
-use Rattle.states.specs.internal.Slots.{setOf}
-use Rattle.states.proofs.Frames.{take-set}
-use Rattle.store.specs.internal.Half.{NoneMerges, bucketOf, FirstOf}
-use Rattle.store.proofs.Storing.{slot-fits, one-set, merged-result, added-result, full-result, sets-kept, slots-kept}
-use Rattle.store.proofs.Indexing.{bucket-inside, none-merges, indexed-same, indexed-more}
+use Rattle.store.specs.internal.Half.{NoneMerges, FirstMerging, KeptAt, Put}
+use Rattle.store.specs.internal.Chains.{LastBefore}
+use Rattle.store.specs.internal.Index.{bucketAt, Spared, usedOf, Linked, Indexed}
+use Rattle.store.proofs.Storing.{slot-fits, one-set, merged-result, added-result, full-result, slots-kept}
+use Rattle.store.proofs.Linking.{merged-linked, unlinked-same}
 use Rattle.store.proofs.store_state.Statement.{statement}
 use Rattle.store.proofs.store_state.Tie as tie
 
-started-set-requires : tie.Need-started-set-requires
-started-set-requires c κs = search needs
+used-of-requires : tie.Need-used-of-requires
+used-of-requires c κs = search needs
 
-bucket-of-requires : tie.Need-bucket-of-requires
-bucket-of-requires c κs = search needs
-
--- the words on entry
-abbrev entry : tie.After-bucket-of → tie.Start
-entry c = c .before .before .before .before .before
-
--- the bucket of the new state
-bucket : (c : tie.After-bucket-of) → c .bucket-of .result ≡ bucketOf (setOf (now (entry c .args .new)))
-bucket c = c .bucket-of .ensures ∙ ap bucketOf (c .before .started-set .ensures)
-
-first-of-requires : tie.Need-first-of-requires
-first-of-requires c κs =
-    let a = c .before .before .before .before .before .before .before in (
-      a .pre .0,
-      a .pre .1,
-      omega (arith, a .pre .2, mul-le-mul-right (stateWords (a .args .m) (a .args .k)) (a .pre .3)),
-      c .before .before .bucket-of .ensures,
-      a .pre .7,
+follow-links-requires : tie.Need-follow-links-requires
+follow-links-requires c κs =
+    let u = c .before .before in
+    let a = u .before .before .before .before in
+    let e = sym (u .used-of .ensures) in (
+      (
+        a .pre .0 .0,
+        a .pre .0 .1,
+        a .pre .1 .0,
+        a .pre .1 .1 .long,
+        subst (λ (z : ℕ). Spared (a .args .m) (a .args .k) (now (a .args .half)) z) e (a .pre .1 .1 .spared),
+        omega (arith, e),
+        subst (λ (z : ℕ). Linked (a .args .m) (a .args .k) (a .args .index) (now (a .args .half)) (now (a .args .heads)) z) e (a .pre .1 .1 .linked),
+      ),
+      (a .pre .0 .4, λ j h. a .pre .0 .5 j (omega (arith, e, h)), a .pre .0 .6),
     )
 
 -- the words on entry
-abbrev entry-searched : tie.After-first-of → tie.Start
-entry-searched c = c .before .before .before .before .before .before .before .before
+abbrev entry : tie.After-follow-links → tie.Start
+entry c = c .before .before .before .before .before .before .before
 
--- the first state of its bucket
-first : (c : tie.After-first-of) → FirstOf (entry-searched c .args .m) (entry-searched c .args .k) (now (entry-searched c .args .half)) (entry-searched c .args .n) (bucketOf (setOf (now (entry-searched c .args .new)))) (c .first-of .result)
-first c = rw (bucket (c .before .before .before)) at (c .first-of .ensures)
+-- so many states are linked
+used : (c : tie.After-follow-links) → c .before .before .before .used-of .result ≡ usedOf (entry c .args .index) (entry c .args .n)
+used c = c .before .before .before .used-of .ensures
 
-find-merging-requires : tie.Need-find-merging-requires
-find-merging-requires c κs =
-    let a = c .before .before .before .before .before .before .before .before .before in (
-      a .pre .0,
-      a .pre .1,
-      omega (arith, a .pre .2, mul-le-mul-right (stateWords (a .args .m) (a .args .k)) (a .pre .3)),
-      a .pre .4,
-      a .pre .5,
-      a .pre .6,
-      c .before .first-of .ensures .inside,
-      none-merges (a .args .m) (a .args .k) (now (a .args .half)) (now (a .args .new)) (a .args .n) (a .pre .5) (a .pre .6) (c .before .first-of .result) (first (c .before)),
-    )
+-- the linked state found is the first of all that merges
+first : (c : tie.Then1) → let a = entry (c .before .before) in FirstMerging (a .args .m) (a .args .k) (now (a .args .half)) (a .args .n) (now (a .args .new)) (c .before .before .follow-links .result .merging)
+first c =
+    let s = c .before .before .follow-links .ensures in
+    record { inside = omega (arith, s .inside, used (c .before .before)); none-before = s .none-before; merges = λ h. s .merges (c .if1 .taken) }
 
--- the words on entry
-abbrev entry-unmerged : tie.Else1 → tie.Start
-entry-unmerged c = c .before .before .before .before .before .before .before .before .before .before .before
+inside : (c : tie.Then1) → let a = entry (c .before .before) in c .before .before .follow-links .result .merging < usedOf (a .args .index) (a .args .n)
+inside c = omega (arith, c .if1 .taken, used (c .before .before))
 
-none : (c : tie.Else1) → NoneMerges (entry-unmerged c .args .m) (entry-unmerged c .args .k) (now (entry-unmerged c .args .half)) (now (entry-unmerged c .args .new)) (entry-unmerged c .args .n)
-none c =
-    let f = c .before .find-merging in
-    let e : f .result ≡ entry-unmerged c .args .n = omega (arith, f .ensures .inside, c .if1 .left) in
-    rw e at (f .ensures .none-before)
-
-merge-at-requires : tie.Need-merge-at-requires
-merge-at-requires c κs =
-    let a = c .before .before .before .before .before .before .before .before .before .before .before .before in
-    let f = c .before .before .find-merging in (
-      a .pre .0,
-      a .pre .1,
-      omega (arith, a .pre .2, slot-fits (f .result) (a .args .cap) (stateWords (a .args .m) (a .args .k)) (omega (arith, a .pre .3, c .before .if1 .taken))),
-      a .pre .4,
-      one-set (a .args .m) (a .args .k) (now (a .args .half)) (now (a .args .new)) (a .args .n) (f .result) (a .pre .5) (a .pre .6) (f .ensures) (c .before .if1 .taken),
+merge-linked-requires : tie.Need-merge-linked-requires
+merge-linked-requires c κs =
+    let t = c .before in
+    let a = entry (t .before .before) in
+    let f = t .before .before .follow-links .result .merging in (
+      a .pre .0 .0,
+      a .pre .0 .1,
+      omega (arith, a .pre .0 .2, slot-fits f (a .args .cap) (stateWords (a .args .m) (a .args .k)) (omega (arith, a .pre .0 .3, inside t))),
+      a .pre .0 .4,
+      one-set (a .args .m) (a .args .k) (now (a .args .half)) (now (a .args .new)) (a .args .n) f (a .pre .0 .5) (a .pre .0 .6) (first t) (omega (arith, inside t)),
+      a .pre .1 .2 (omega (arith, inside t)),
     )
 
 same-length : tie.Need-same-length
@@ -87,35 +76,65 @@ same-length-2 c = search needs
 
 returns : tie.Need-returns
 returns c =
-    let a = c .before .before .before .before .before .before .before .before .before .before .before .before .before .before .before in
-    let f = c .before .before .before .before .before .find-merging in
-    let x = c .before .before .merge-at in
-    let same = one-set (a .args .m) (a .args .k) (now (a .args .half)) (now (a .args .new)) (a .args .n) (f .result) (a .pre .5) (a .pre .6) (f .ensures) (c .before .before .before .before .if1 .taken) in
-    let o = merged-result (a .args .m) (a .args .k) (now (a .args .half)) (now (a .args .new)) (a .args .n) (a .args .cap) (a .pre .2) (a .pre .3) (f .result) (x .last .0) (f .ensures) (c .before .before .before .before .if1 .taken) (x .ensures .0 .0) (x .ensures .0 .1) (x .ensures .1) in (
+    let l = c .before .before in
+    let t = l .before .before in
+    let a = entry (t .before .before) in
+    let f = t .before .before .follow-links .result .merging in
+    let x = l .merge-linked in
+    let o = merged-result (a .args .m) (a .args .k) (now (a .args .half)) (now (a .args .new)) (a .args .n) (a .args .cap) (a .pre .0 .2) (a .pre .0 .3) f (x .last .0) (first t) (omega (arith, inside t)) (x .ensures .0 .0) (x .ensures .0 .1) in (
       o .0,
-      (
-        o .1,
-        indexed-same (a .args .m) (a .args .k) (now (a .args .half)) (a .args .n) (now (a .args .heads)) (a .pre .7) (x .last .0)
-            (sets-kept (a .args .m) (a .args .k) (now (a .args .half)) (now (a .args .new)) (a .args .n) (a .args .cap) (a .pre .2) (a .pre .3) (f .result) (x .last .0) (x .ensures .0 .1 ∙ sym same) (x .ensures .1)),
-      ),
+      (o .1, merged-linked (a .args .m) (a .args .k) (a .args .index) (now (a .args .half)) (now (a .args .heads)) (a .pre .1 .0) (a .args .n) f (x .last .0) (a .pre .1 .1) (x .ensures .0 .1) (inside t) (x .ensures .0 .0 .set) (x .ensures .1)),
     )
 
-put-at-requires : tie.Need-put-at-requires
-put-at-requires c κs =
-    let a = c .before .before .before .before .before .before .before .before .before .before .before .before .before in
-    (a .pre .0, a .pre .1, omega (arith, a .pre .2, slot-fits (a .args .n) (a .args .cap) (stateWords (a .args .m) (a .args .k)) (c .before .if2 .taken)), a .pre .4)
+-- where no linked state merges, the search went through all of them
+past : (c : tie.Else1) → c .before .before .follow-links .result .merging ≡ c .before .before .before .before .before .used-of .result
+past c = omega (arith, c .before .before .follow-links .ensures .inside, c .if1 .left)
 
-head-of-requires : tie.Need-head-of-requires
-head-of-requires c κs = search needs
+find-merging-requires : tie.Need-find-merging-requires
+find-merging-requires c κs =
+    let d = c .before in
+    let a = entry (d .before .before) in (
+      a .pre .0 .0,
+      a .pre .0 .1,
+      omega (arith, a .pre .0 .2, mul-le-mul-right (stateWords (a .args .m) (a .args .k)) (a .pre .0 .3)),
+      a .pre .0 .4,
+      a .pre .0 .5,
+      a .pre .0 .6,
+      omega (arith, used (d .before .before)),
+      subst (λ (z : ℕ). NoneMerges (a .args .m) (a .args .k) (now (a .args .half)) (now (a .args .new)) z) (past d) (d .before .before .follow-links .ensures .none-before),
+    )
 
-mul-heads : tie.Need-mul-heads
-mul-heads c = omega (arith, bucket (c .before .before .before .before .before .before .before .before .before .before .before .before), bucket-inside (setOf (now (c .before .before .before .before .before .before .before .before .before .before .before .before .before .before .before .before .before .args .new))))
+-- the words on entry
+abbrev entry-found : tie.After-find-merging → tie.Start
+entry-found c = entry (c .before .before .before .before)
 
-slice-write-heads : tie.Need-slice-write-heads
-slice-write-heads c = omega (arith, bucket (c .before .before .before .before .before .before .before .before .before .before .before .before), bucket-inside (setOf (now (c .before .before .before .before .before .before .before .before .before .before .before .before .before .before .before .before .before .args .new))), c .before .before .before .before .before .before .before .before .before .before .before .before .before .before .before .before .before .pre .7 .long)
+none : (c : tie.Else2) → let a = entry-found (c .before) in NoneMerges (a .args .m) (a .args .k) (now (a .args .half)) (now (a .args .new)) (a .args .n)
+none c =
+    let f = c .before .find-merging in
+    let e : f .result ≡ entry-found (c .before) .args .n = omega (arith, f .ensures .inside, c .if2 .left) in
+    rw e at (f .ensures .none-before)
 
-add-t26 : tie.Need-add-t26
-add-t26 c = search needs
+-- a state that merges stands behind the linked ones
+behind : (c : tie.Then2) → entry-found (c .before) .args .index .linked ≤ c .before .find-merging .result
+behind c =
+    let g = c .before in
+    let d = g .before .before in
+    let f = g .find-merging in
+    let l : d .before .before .before .before .before .used-of .result < f .result + 1 =
+    lt-of-not-le (λ h. true≢false (sym (f .ensures .merges (c .if2 .taken)) ∙ d .before .before .follow-links .ensures .none-before (f .result) (omega (arith, h, past d)))) in
+    omega (arith, l, used (d .before .before), c .if2 .taken)
+
+merge-at-requires : tie.Need-merge-at-requires
+merge-at-requires c κs =
+    let g = c .before .before in
+    let a = entry-found g in
+    let f = g .find-merging in (
+      a .pre .0 .0,
+      a .pre .0 .1,
+      omega (arith, a .pre .0 .2, slot-fits (f .result) (a .args .cap) (stateWords (a .args .m) (a .args .k)) (omega (arith, a .pre .0 .3, c .before .if2 .taken))),
+      a .pre .0 .4,
+      one-set (a .args .m) (a .args .k) (now (a .args .half)) (now (a .args .new)) (a .args .n) (f .result) (a .pre .0 .5) (a .pre .0 .6) (f .ensures) (c .before .if2 .taken),
+    )
 
 same-length-3 : tie.Need-same-length-3
 same-length-3 c = search needs
@@ -125,17 +144,15 @@ same-length-4 c = search needs
 
 returns-2 : tie.Need-returns-2
 returns-2 c =
-    let a = c .before .before .before .before .before .before .before .before .before .before .before .before .before .before .before .before .before in
-    let x = c .before .before .before .put-at in
-    let o = added-result (a .args .m) (a .args .k) (now (a .args .half)) (now (a .args .new)) (a .args .n) (a .args .cap) (a .pre .2) (a .pre .3) (none (c .before .before .before .before .before .before)) (x .last .0) (c .before .before .before .before .before .if2 .taken) (x .ensures .0) (x .ensures .1) in (
+    let l = c .before .before in
+    let t = l .before .before in
+    let g = t .before in
+    let a = entry-found g in
+    let f = g .find-merging in
+    let x = l .merge-at in
+    let o = merged-result (a .args .m) (a .args .k) (now (a .args .half)) (now (a .args .new)) (a .args .n) (a .args .cap) (a .pre .0 .2) (a .pre .0 .3) (f .result) (x .last .0) (f .ensures) (t .if2 .taken) (x .ensures .0) (x .ensures .1) in (
       o .0,
-      (
-        o .1,
-        rw (bucket (c .before .before .before .before .before .before .before .before .before .before .before .before), c .head-of .ensures)
-            (indexed-more (a .args .m) (a .args .k) (now (a .args .half)) (a .args .n) (now (a .args .heads)) (a .pre .7) (x .last .0) (setOf (now (a .args .new))) (c .before .before .before .before .before .before .before .before .before .first-of .result)
-            (slots-kept (a .args .m) (a .args .k) (now (a .args .half)) (now (a .args .new)) (a .args .n) (a .args .cap) (a .pre .2) (a .pre .3) (x .last .0) (x .ensures .1))
-            (ap setOf (x .ensures .0) ∙ take-set (a .args .m) (a .args .k) (now (a .args .new))) (first (c .before .before .before .before .before .before .before .before .before))),
-      ),
+      (o .1, unlinked-same (a .args .m) (a .args .k) (a .args .index) (now (a .args .half)) (now (a .args .heads)) (a .pre .1 .0) (a .args .n) (f .result) (x .last .0) (a .pre .1 .1) (x .ensures .1) (a .args .n) (behind t) refl),
     )
 
 same-length-5 : tie.Need-same-length-5
@@ -146,30 +163,107 @@ same-length-6 c = search needs
 
 returns-3 : tie.Need-returns-3
 returns-3 c =
-    let a = c .before .before .before .before .before .before .before .before .before .before .before .before in
-    let o = full-result (a .args .m) (a .args .k) (now (a .args .half)) (now (a .args .new)) (a .args .n) (a .args .cap) (a .pre .2) (a .pre .3) (none (c .before)) (c .if2 .left) in
+    let a = entry-found (c .before .before) in
+    let o = full-result (a .args .m) (a .args .k) (now (a .args .half)) (now (a .args .new)) (a .args .n) (a .args .cap) (a .pre .0 .2) (a .pre .0 .3) (none (c .before)) (c .if3 .taken) in
     (o .0, (o .1, tt))
+
+-- the words on entry
+abbrev entry-new : tie.After-struct-known2 → tie.Start
+entry-new c = entry-found (c .before .before .before)
+
+append-linked-requires : tie.Need-append-linked-requires
+append-linked-requires c κs =
+    let t = c .before .before in
+    let d = t .before .before .before .before .before .before in
+    let a = entry (d .before .before) in
+    let s = d .before .before .follow-links in
+    let e : d .before .before .before .before .before .used-of .result ≡ a .args .n = omega (arith, used (d .before .before), t .if4 .taken) in (
+      (a .pre .0 .0, a .pre .0 .1, a .pre .1 .0, t .if4 .taken, a .pre .1 .1),
+      (
+        a .pre .0 .4,
+        a .pre .1 .2 (omega (arith, t .if4 .taken)),
+        s .ensures .bucket,
+        subst (λ (z : ℕ). LastBefore z (bucketAt (a .args .index .buckets) (a .args .m) (a .args .k) (now (a .args .half))) (s .result .bucket) z (s .result .last)) e
+            (s .ensures .last (past d)),
+      ),
+    )
+
+put-at-requires : tie.Need-put-at-requires
+put-at-requires c κs =
+    let d = c .before .before in
+    let a = entry-new d in
+    (a .pre .0 .0, a .pre .0 .1, omega (arith, a .pre .0 .2, slot-fits (a .args .n) (a .args .cap) (stateWords (a .args .m) (a .args .k)) (d .before .if3 .left)), a .pre .0 .4)
+
+add-t33 : tie.Need-add-t33
+add-t33 c = search needs
+
+-- the half and the heads once the new state is stored last
+abbrev Added : tie.After-struct-known2 → List ℕ → List ℕ → Type 0
+Added c half heads =
+    let a = entry-new c in
+    Put (a .args .m) (a .args .k) (now (a .args .new)) half (a .args .n)
+    × ((j : ℕ) → j < a .args .n → KeptAt (a .args .m) (a .args .k) (now (a .args .half)) half j)
+    × Indexed (a .args .m) (a .args .k) (a .args .index) half heads (a .args .n + 1)
+    × (length half ≡ length (now (a .args .half)))
+    × (length heads ≡ length (now (a .args .heads)))
+
+added : (c : tie.Joined4) → Added (c .before) (c .if4 .half) (c .if4 .heads)
+added c =
+    let a = entry-new (c .before) in
+    ⊎-elim
+    (λ w.
+    let x = w .3 in
+    subst (λ (z : List ℕ). Added (c .before) z (c .if4 .heads)) (sym (w .8)) (
+    subst (λ (z : List ℕ). Added (c .before) (x .last .0) z) (sym (w .9))
+    (x .ensures .0 .0, x .ensures .0 .1, x .ensures .1, x .kept .0, x .kept .1 .0)
+    ))
+    (λ w.
+    let x = w .2 in
+    subst (λ (z : List ℕ). Added (c .before) z (c .if4 .heads)) (sym (w .5)) (
+    subst (λ (z : List ℕ). Added (c .before) (x .last .0) z) (sym (w .6)) (
+      x .ensures .0,
+      slots-kept (a .args .m) (a .args .k) (now (a .args .half)) (now (a .args .new)) (a .args .n) (a .args .cap) (a .pre .0 .2) (a .pre .0 .3) (x .last .0) (x .ensures .1),
+      unlinked-same (a .args .m) (a .args .k) (a .args .index) (now (a .args .half)) (now (a .args .heads)) (a .pre .1 .0) (a .args .n) (a .args .n) (x .last .0) (a .pre .1 .1) (x .ensures .1) (a .args .n + 1) (w .0 .left) (omega (arith, w .0 .left)),
+      x .kept .0,
+      refl,
+    )
+    ))
+    (c .if4 .came)
+
+same-length-7 : tie.Need-same-length-7
+same-length-7 c = added c .3
+
+same-length-8 : tie.Need-same-length-8
+same-length-8 c = added c .4
+
+returns-4 : tie.Need-returns-4
+returns-4 c =
+    let a = entry-new (c .before) in
+    let x = added c in
+    let o = added-result (a .args .m) (a .args .k) (now (a .args .half)) (now (a .args .new)) (a .args .n) (a .args .cap) (a .pre .0 .2) (a .pre .0 .3) (none (c .before .before .before)) (c .if4 .half) (c .before .before .if3 .left) (x .0) (x .1) in
+    (o .0, (o .1, x .2))
 
 pub store-state-spec : {M : Type 1} → statement M
 store-state-spec =
     tie.close
     (tie.spec
-    started-set-requires
-    bucket-of-requires
-    first-of-requires
-    find-merging-requires
-    merge-at-requires
+    used-of-requires
+    follow-links-requires
+    merge-linked-requires
     same-length
     same-length-2
     returns
-    put-at-requires
-    head-of-requires
-    mul-heads
-    slice-write-heads
-    add-t26
+    find-merging-requires
+    merge-at-requires
     same-length-3
     same-length-4
     returns-2
     same-length-5
     same-length-6
-    returns-3)
+    returns-3
+    append-linked-requires
+    put-at-requires
+    add-t33
+    same-length-7
+    same-length-8
+    returns-4)

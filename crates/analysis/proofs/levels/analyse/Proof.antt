@@ -3,7 +3,7 @@ use mathlib.Core.Path.{_≡_, ap, _∙_}
 use denote.Ref.{now}
 use borrow.Author.Needs.{needs}
 use Rattle.steps.specs.internal.Observed.{observedWords}
-use Rattle.analysis.proofs.LevelZero.{zeros, nothing-observed, no-room, first-inside, cleared-room, first-half, first-level, answered}
+use Rattle.analysis.proofs.LevelZero.{zeros, nothing-observed, no-room, room-for-one, first-inside, cleared-room, first-half, first-level, answered}
 use Rattle.analysis.proofs.levels.analyse.Statement.{statement}
 use Rattle.analysis.proofs.levels.analyse.Tie as tie
 
@@ -57,6 +57,7 @@ build-levels-requires c κs =
       (
         a .pre .0,
         cleared-room (now (x .rows)) (x .k) (x .m) (now (x .table)) (s .ensures) l (first .ensures),
+        room-for-one (now (x .rows)) (x .k) (x .m) (now (x .table)) (s .ensures) l,
         first-half (now (x .rows)) (x .k) (x .m) (now (x .table)) (s .ensures) l (first .ensures) (a .pre .0 .timed),
         nothing-observed (none (c .before .before .before .before .before .before .before .before .before .before)),
       ),

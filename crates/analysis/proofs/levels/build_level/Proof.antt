@@ -8,16 +8,18 @@ use borrow.Author.Needs.{needs}
 use Rattle.model.specs.Limits.{mostCores, mostJobs}
 use Rattle.model.specs.Exploration.{stateWords}
 use Rattle.words.proofs.Parts.{part-length}
-use Rattle.analysis.proofs.Building.{Building, building-starts, building-ends, read-inside, target-half, loaded-sound, table-long, building-goes-on, building-stops}
+use Rattle.analysis.proofs.Building.{Building, building-starts, building-ends, building-goes-on, building-stops}
+use Rattle.analysis.proofs.Building.{read-inside, target-half, loaded-sound, loaded-linkable, table-long}
 use Rattle.analysis.proofs.levels.build_level.Statement.{statement}
 use Rattle.analysis.proofs.levels.build_level.Tie as tie
 
 abbrev Inv-loop : tie.InvT-loop
-Inv-loop table₀ seen₀ heads₀ rows sets shape m k capacity from n to w end cur₀ built₀ j₀ table seen heads cur built j =
-    Building rows (shape .jobs) (shape .cores) (shape .capacity) from to n table₀ seen₀ table seen heads built j × (length cur ≡ stateWords mostCores mostJobs)
+Inv-loop table₀ seen₀ heads₀ rows sets shape m k cap from n to w end cur₀ built₀ j₀ table seen heads cur built j =
+    Building rows (shape .jobs) (shape .cores) (shape .capacity) (shape .index) from to n table₀ seen₀ table seen heads built j
+    × (length cur ≡ stateWords mostCores mostJobs)
 
 abbrev μ-loop : tie.MeasureT-loop
-μ-loop table₀ seen₀ heads₀ rows sets shape m k capacity from n to w end cur₀ built₀ j₀ table seen heads cur built j = n - j
+μ-loop table₀ seen₀ heads₀ rows sets shape m k cap from n to w end cur₀ built₀ j₀ table seen heads cur built j = n - j
 
 state-words-requires : tie.Need-state-words-requires Inv-loop μ-loop
 state-words-requires c κs = search needs
@@ -28,7 +30,7 @@ entry c = c .before .before .before .before .before .before
 
 -- the half that is written lies in the table
 target : (c : tie.After-state-words Inv-loop μ-loop) → entry c .args .level .to + entry c .args .shape .capacity * c .state-words .result ≤ length (now (entry c .args .table))
-target c = omega (arith, ap (λ (z : ℕ). entry c .args .shape .capacity * z) (c .state-words .ensures), entry c .pre .1 .0 .target)
+target c = omega (arith, ap (λ (z : ℕ). entry c .args .shape .capacity * z) (c .state-words .ensures), entry c .pre .1 .0 .0 .target)
 
 mul-end : tie.Need-mul-end Inv-loop μ-loop
 mul-end c = omega (arith, target c)
@@ -39,7 +41,7 @@ add-end c = omega (arith, target c)
 loop-holds : tie.Need-loop-holds Inv-loop μ-loop
 loop-holds c =
     let a = c .before .before .before .before .before .before in
-    (building-starts (a .pre .1 .0) (a .pre .1 .1) (a .pre .1 .2) (a .pre .1 .3), refl)
+    (building-starts (a .pre .1 .0 .0) (a .pre .1 .0 .1) (a .pre .1 .0 .2) (a .pre .1 .1 .0) (a .pre .1 .1 .1) (a .pre .1 .1 .2), refl)
 
 -- the state that is read lies in the table
 read : (c : tie.In-loop Inv-loop μ-loop) → entry (c .before .before) .args .level .from + c .before .loop .j * c .before .before .state-words .result + c .before .before .state-words .result ≤ length (c .before .loop .table)
@@ -105,6 +107,7 @@ try-state-requires c κs =
         loaded-sound (i .inv .0) (s .ensures) t (l .last .0) (l .ensures .0) (l .ensures .1),
         target-half (i .inv .0) (s .ensures) t,
         i .inv .0 .observed,
+        loaded-linkable (i .inv .0) (s .ensures) t (l .last .0) (l .ensures .0),
       ),
     )
 
@@ -128,38 +131,43 @@ kept : (c : tie.After-try-state Inv-loop μ-loop) → (length (c .try-state .las
 kept c =
     let p = first c .pre in
     let i = turn c .before .loop .inv .0 in
-    let k = c .try-state .kept in (k .1 .0 ∙ i .observed .long ∙ sym (p .1 .2 .long), k .1 .1 .0 ∙ i .target .1 .long ∙ sym (p .1 .3))
+    let k = c .try-state .kept in (k .1 .0 ∙ i .observed .long ∙ sym (p .1 .0 .2 .long), k .1 .1 .0 ∙ i .target .1 .1 .long ∙ sym (p .1 .1 .0))
 
 same-length : tie.Need-same-length Inv-loop μ-loop
 same-length c =
-    let x = c .before .before .before .before .before .before .before in
+    let x = c .before .before .before .before .before .before .before .before in
     let l = loaded x .load-state in
-    table-long (turn x .before .loop .inv .0) (turn x .before .before .state-words .ensures) (turn x .loop-test .taken) (l .last .0) (l .ensures .0) (x .try-state .kept .0) (x .try-state .ensures)
+    table-long (turn x .before .loop .inv .0) (turn x .before .before .state-words .ensures) (turn x .loop-test .taken) (l .last .0) (l .ensures .0)
+    (x .try-state .kept .0) (x .try-state .ensures)
 
 same-length-2 : tie.Need-same-length-2 Inv-loop μ-loop
-same-length-2 c = kept (c .before .before .before .before .before .before .before) .0
+same-length-2 c = kept (c .before .before .before .before .before .before .before .before) .0
 
 same-length-3 : tie.Need-same-length-3 Inv-loop μ-loop
-same-length-3 c = kept (c .before .before .before .before .before .before .before) .1
+same-length-3 c = kept (c .before .before .before .before .before .before .before .before) .1
 
 returns : tie.Need-returns Inv-loop μ-loop
 returns c =
-    let x = c .before .before .before .before .before .before .before in
+    let x = c .before .before .before .before .before .before .before .before in
     let l = loaded x .load-state in
-    building-stops (turn x .before .loop .inv .0) (turn x .before .before .state-words .ensures) (turn x .loop-test .taken) (l .last .0) (l .ensures .0) (x .try-state .kept .0) (x .try-state .ensures) (c .match .keys2)
+    building-stops (turn x .before .loop .inv .0) (turn x .before .before .state-words .ensures) (turn x .loop-test .taken) (l .last .0) (l .ensures .0)
+    (x .try-state .kept .0) (x .try-state .ensures) (c .match .keys2)
 
 add-j : tie.Need-add-j Inv-loop μ-loop
-add-j c = omega (arith, turn (c .before .before .before .before .before .before .before .before .before) .loop-test .taken, first (c .before .before .before .before .before .before .before .before .before) .good)
+add-j c =
+    let x = c .before .before .before .before .before .before .before .before .before .before in
+    omega (arith, turn x .loop-test .taken, first x .good)
 
 loop-less : tie.Need-loop-less Inv-loop μ-loop
-loop-less c = omega (arith, turn (c .before .before .before .before .before .before .before .before .before) .loop-test .taken)
+loop-less c = omega (arith, turn (c .before .before .before .before .before .before .before .before .before .before) .loop-test .taken)
 
 loop-again : tie.Need-loop-again Inv-loop μ-loop
 loop-again c =
-    let x = c .before .before .before .before .before .before .before .before .before in
+    let x = c .before .before .before .before .before .before .before .before .before .before in
     let l = loaded x .load-state in (
-      building-goes-on (turn x .before .loop .inv .0) (turn x .before .before .state-words .ensures) (turn x .loop-test .taken) (l .last .0) (l .ensures .0) (x .try-state .kept .0) (x .try-state .ensures) (c .before .progress .given .1),
-      l .kept .0 ∙ turn x .before .loop .inv .1,
+      building-goes-on (turn x .before .loop .inv .0) (turn x .before .before .state-words .ensures) (turn x .loop-test .taken) (l .last .0) (l .ensures .0)
+          (x .try-state .kept .0) (x .try-state .ensures) (c .before .progress .given .1),
+      x .try-state .kept .1 .1 .1 .1 .1 .1 .0 ∙ l .kept .0 ∙ turn x .before .loop .inv .1,
     )
 
 -- ---- after the last state
@@ -168,10 +176,10 @@ same-length-4 : tie.Need-same-length-4 Inv-loop μ-loop
 same-length-4 c = c .before .loop .inv .0 .long
 
 same-length-5 : tie.Need-same-length-5 Inv-loop μ-loop
-same-length-5 c = c .before .loop .inv .0 .observed .long ∙ sym (c .before .before .before .before .before .before .before .before .pre .1 .2 .long)
+same-length-5 c = c .before .loop .inv .0 .observed .long ∙ sym (c .before .before .before .before .before .before .before .before .pre .1 .0 .2 .long)
 
 same-length-6 : tie.Need-same-length-6 Inv-loop μ-loop
-same-length-6 c = c .before .loop .inv .0 .target .1 .long ∙ sym (c .before .before .before .before .before .before .before .before .pre .1 .3)
+same-length-6 c = c .before .loop .inv .0 .target .1 .1 .long ∙ sym (c .before .before .before .before .before .before .before .before .pre .1 .1 .0)
 
 returns-2 : tie.Need-returns-2 Inv-loop μ-loop
 returns-2 c = building-ends (c .before .loop .inv .0) (c .loop-test .left)

@@ -5,35 +5,47 @@ use native.Mathlib.Omega.{arith}
 use lib.ListN.{length, length-replicate}
 use denote.Ref.{now}
 use borrow.Author.Needs.{needs}
-use Rattle.store.specs.internal.Half.{buckets}
-use Rattle.analysis.proofs.LevelsBuilt.{LevelsBuilt, levels-begin, levels-end, halves-apart, count-fits, levels-go-on, levels-full, levels-late}
+use Rattle.store.specs.internal.Index.{headRoom}
+use Rattle.analysis.proofs.LevelsBuilt.{LevelsBuilt, levels-begin, levels-end, levels-go-on, levels-full, levels-late}
+use Rattle.analysis.proofs.LevelsBuilt.{halves-apart, level-linkable, count-fits}
 use Rattle.analysis.proofs.levels.build_levels.Statement.{statement}
 use Rattle.analysis.proofs.levels.build_levels.Tie as tie
 
 abbrev Inv-loop : tie.InvT-loop
-Inv-loop table₀ seen₀ rows shape m k capacity w sets from₀ to₀ n₀ count₀ depth₀ heads₀ table seen from to n count depth heads =
-    LevelsBuilt rows (shape .jobs) (shape .cores) (shape .capacity) table₀ table seen from to n count depth × (length heads ≡ buckets)
+Inv-loop table₀ seen₀ rows k m cap sets heads₀ from₀ to₀ n₀ count₀ depth₀ table seen heads from to n count depth =
+    LevelsBuilt rows k m cap table₀ table seen from to n count depth × (length heads ≡ headRoom)
 
 abbrev μ-loop : tie.MeasureT-loop
-μ-loop table₀ seen₀ rows shape m k capacity w sets from₀ to₀ n₀ count₀ depth₀ heads₀ table seen from to n count depth heads = k - depth
-
-state-words-requires : tie.Need-state-words-requires Inv-loop μ-loop
-state-words-requires c κs = search needs
+μ-loop table₀ seen₀ rows k m cap sets heads₀ from₀ to₀ n₀ count₀ depth₀ table seen heads from to n count depth = k - depth
 
 slice-aggregate-write-predecessor-sets : tie.Need-slice-aggregate-write-predecessor-sets Inv-loop μ-loop
 slice-aggregate-write-predecessor-sets c = search needs
 
 write-predecessor-sets-requires : tie.Need-write-predecessor-sets-requires Inv-loop μ-loop
 write-predecessor-sets-requires c κs =
-    let p = c .before .before .before .before .before .pre .0 .0 in (p .rows-of, p .jobs, p .jobs)
+    let p = c .before .before .before .before .pre .0 .0 in (p .rows-of, p .jobs, p .jobs)
+
+state-words-requires : tie.Need-state-words-requires Inv-loop μ-loop
+state-words-requires c κs =
+    let p = c .before .before .before .before .before .before .pre .0 .0 in (p .few-cores, p .jobs)
+
+-- the words on entry
+abbrev entry : tie.After-state-words Inv-loop μ-loop → tie.Start Inv-loop μ-loop
+entry c = c .before .before .before .before .before .before .before
 
 mul-to : tie.Need-mul-to Inv-loop μ-loop
-mul-to c = omega (arith, ap (λ (z : ℕ). c .before .before .before .before .before .before .before .args .shape .capacity * z) (c .before .before .before .state-words .ensures), c .before .before .before .before .before .before .before .pre .0 .1)
+mul-to c = omega (arith, ap (λ (z : ℕ). entry c .args .cap * z) (c .state-words .ensures), entry c .pre .0 .1)
 
 loop-holds : tie.Need-loop-holds Inv-loop μ-loop
 loop-holds c =
-    let a = c .before .before .before .before .before .before .before in
-    (levels-begin (a .pre .0 .1) (c .before .before .before .state-words .ensures) (a .pre .0 .2) (a .pre .0 .3) (a .pre .1), length-replicate {A = ℕ} buckets 0)
+    let p = entry c .pre in
+    (levels-begin (p .0 .1) (c .state-words .ensures) (p .0 .3) (p .0 .4) (p .1), length-replicate {A = ℕ} headRoom 0)
+
+add-index-of : tie.Need-add-index-of Inv-loop μ-loop
+add-index-of c = omega (arith, c .loop-test .taken, entry (c .before .before) .pre .0 .0 .jobs)
+
+index-of-requires : tie.Need-index-of-requires Inv-loop μ-loop
+index-of-requires c κs = entry (c .before .before) .pre .0 .2
 
 slice-aggregate-build-level : tie.Need-slice-aggregate-build-level Inv-loop μ-loop
 slice-aggregate-build-level c = search needs
@@ -43,25 +55,32 @@ slice-aggregate-build-level-2 c = search needs
 
 build-level-requires : tie.Need-build-level-requires Inv-loop μ-loop
 build-level-requires c κs =
-    let a = c .before .before .before .before .before .before .before .before .before .before .before .before .before in
-    let i = c .before .before .before .before .before .loop in
-    let p = c .before .before .before .before .before .before .before .write-predecessor-sets in
-    ((a .pre .0 .0, omega (arith, p .kept .1 .1 .0, a .pre .0 .0 .jobs), p .ensures), (halves-apart (i .inv .0), i .inv .0 .half, i .inv .0 .observed, i .inv .1))
+    let turn = c .before .before .before .before .before in
+    let index = c .before .before .before .before .index-of in
+    let a = entry (turn .before .before) in
+    let i = turn .before .loop .inv in
+    let p = turn .before .before .before .before .write-predecessor-sets in (
+      (a .pre .0 .0, omega (arith, p .kept .1 .1 .0, a .pre .0 .0 .jobs), p .ensures),
+      (
+        (halves-apart (i .0), i .0 .half, i .0 .observed),
+        (i .1, index .ensures .0 (a .args .m) (a .args .k), level-linkable (i .0) (index .result) (turn .loop-test .taken) (index .ensures .1)),
+      ),
+    )
 
 -- ---- what a level leaves
 
 -- before it: the words on entry, and at the loop's test
-abbrev first : tie.After-build-level Inv-loop μ-loop → tie.Start Inv-loop μ-loop
-first c = c .before .before .before .before .before .before .before .before .before .before .before .before .before .before
-
 abbrev turn : tie.After-build-level Inv-loop μ-loop → tie.In-loop Inv-loop μ-loop
-turn c = c .before .before .before .before .before
+turn c = c .before .before .before .before .before .before
+
+abbrev first : tie.After-build-level Inv-loop μ-loop → tie.Start Inv-loop μ-loop
+first c = entry (turn c .before .before)
 
 -- no slice changes its length
 kept : (c : tie.After-build-level Inv-loop μ-loop) → (length (c .build-level .last .0) ≡ length (now (first c .args .table))) × (length (c .build-level .last .1 .0) ≡ length (now (first c .args .seen)))
 kept c =
     let i = turn c .before .loop .inv .0 in
-    let k = c .build-level .kept in (k .0 ∙ i .long, k .1 .0 ∙ i .observed .long ∙ sym (first c .pre .0 .3 .long))
+    let k = c .build-level .kept in (k .0 ∙ i .long, k .1 .0 ∙ i .observed .long ∙ sym (first c .pre .0 .4 .long))
 
 enum-known-x : tie.Need-enum-known-x Inv-loop μ-loop
 enum-known-x c = search needs
@@ -107,7 +126,9 @@ returns-2 c =
     levels-late (turn x .before .loop .inv .0) (turn x .loop-test .taken) (y .kept .0) (y .ensures .0) (y .ensures .1) (c .before .i .given .1)
 
 add-depth : tie.Need-add-depth Inv-loop μ-loop
-add-depth c = omega (arith, turn (c .before .before .before .before .before .before .before .before) .loop-test .taken, first (c .before .before .before .before .before .before .before .before) .pre .0 .0 .jobs)
+add-depth c =
+    let x = c .before .before .before .before .before .before .before .before in
+    omega (arith, turn x .loop-test .taken, first x .pre .0 .0 .jobs)
 
 loop-less : tie.Need-loop-less Inv-loop μ-loop
 loop-less c = omega (arith, turn (c .before .before .before .before .before .before .before .before) .loop-test .taken)
@@ -125,7 +146,7 @@ same-length-5 : tie.Need-same-length-5 Inv-loop μ-loop
 same-length-5 c = c .before .loop .inv .0 .long
 
 same-length-6 : tie.Need-same-length-6 Inv-loop μ-loop
-same-length-6 c = c .before .loop .inv .0 .observed .long ∙ sym (c .before .before .before .before .before .before .before .before .before .pre .0 .3 .long)
+same-length-6 c = c .before .loop .inv .0 .observed .long ∙ sym (c .before .before .before .before .before .before .before .before .before .pre .0 .4 .long)
 
 returns-3 : tie.Need-returns-3 Inv-loop μ-loop
 returns-3 c =
@@ -138,11 +159,13 @@ build-levels-spec =
     (tie.spec
     Inv-loop
     μ-loop
-    state-words-requires
     slice-aggregate-write-predecessor-sets
     write-predecessor-sets-requires
+    state-words-requires
     mul-to
     loop-holds
+    add-index-of
+    index-of-requires
     slice-aggregate-build-level
     slice-aggregate-build-level-2
     build-level-requires

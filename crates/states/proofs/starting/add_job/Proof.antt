@@ -7,7 +7,7 @@ use lib.Pow.{pow-mono}
 use denote.Ref.{now}
 use Rattle.states.specs.internal.Slots.{setOf}
 use Rattle.states.proofs.Bits.{shifted-one}
-use Rattle.states.proofs.Starts.{joined-fits, added-set, added-state}
+use Rattle.states.proofs.Starts.{joined-fits, added-set, added-others, added-state}
 use borrow.Author.Needs.{needs}
 use Rattle.states.proofs.starting.add_job.Statement.{statement}
 use Rattle.states.proofs.starting.add_job.Tie as tie
@@ -83,7 +83,10 @@ returns c =
     let a = c .before .before .before in
     let set = c .started-set .result + (1 * 2 ^ a .args .i) % 2 ^ 64 in (
       added-state (a .args .m) (a .args .k) (now (a .args .out)) (a .args .i) (a .pre .0) (a .pre .3) (a .pre .4) set (a .args .e) (a .args .f) (bits c) (a .pre .2),
-      added-set (a .args .m) (a .args .k) (now (a .args .out)) (a .args .i) (a .pre .0) (a .pre .3) (a .pre .4) set (a .args .e) (a .args .f) (bits c) (a .pre .2),
+      (
+        added-set (a .args .m) (a .args .k) (now (a .args .out)) (a .args .i) (a .pre .0) (a .pre .3) (a .pre .4) set (a .args .e) (a .args .f) (bits c) (a .pre .2),
+        added-others (a .args .m) (a .args .k) (now (a .args .out)) (a .args .i) (a .pre .0) (a .pre .3) (a .pre .4) set (a .args .e) (a .args .f) (bits c) (a .pre .2),
+      ),
     )
 
 pub add-job-spec : {M : Type 1} → statement M

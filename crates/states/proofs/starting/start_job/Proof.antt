@@ -11,7 +11,7 @@ use Rattle.model.specs.internal.Sorted.{Sorted}
 use Rattle.words.proofs.Parts.{part-length, length-put}
 use Rattle.words.specs.internal.Parts.{part}
 use Rattle.states.specs.internal.Slots.{possiblyAt, certainlyAt, stateOf}
-use Rattle.states.proofs.Starts.{parts-sorted, upper-kept, updated-set, started-state}
+use Rattle.states.proofs.Starts.{parts-sorted, upper-kept, updated-set, updated-others, started-state}
 use borrow.Author.Needs.{needs}
 use Rattle.states.proofs.starting.start_job.Statement.{statement}
 use Rattle.states.proofs.starting.start_job.Tie as tie
@@ -96,7 +96,10 @@ returns c =
     let ly : length zs ≡ m = rw (p, q) at (y .kept .0) ∙ part-length (certainlyAt m) m (putMid possiblyAt m ws ys) (omega (arith, length-put possiblyAt m ws ys (omega arith) lx)) in
     rw (p, q) (
       started-state m k ws ys zs long lx ly (stateOf m k (now (a .args .out))) (a .args .start .job) (a .args .start .start) (a .args .start .earliest) (a .args .start .latest) (w .ensures .0) (rw p at (x .ensures)) (rw (p, q) at (y .ensures)),
-      updated-set m k ws ys zs long lx ly ∙ w .ensures .1,
+      (
+        updated-set m k ws ys zs long lx ly ∙ w .ensures .1 .0,
+        updated-others m k ws ys zs long lx ly (a .args .start .job) (now (a .args .out)) (w .ensures .1 .1),
+      ),
     )
 
 pub start-job-spec : {M : Type 1} → statement M

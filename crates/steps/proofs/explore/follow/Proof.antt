@@ -1,6 +1,6 @@
 -- `follow` meets its contract: without an edge all stays; else the deadline is tested, and the successor stored. Assumes nothing.
 use Prim.Native.Nat.{_≤_, _<_}
-use mathlib.Core.Path.{sym, ap, _∙_}
+use mathlib.Core.Path.{refl, sym, ap, _∙_}
 use native.Mathlib.Omega.{arith}
 use denote.Ref.{now}
 use borrow.Author.Needs.{needs}
@@ -24,7 +24,7 @@ returns c =
     let s = c .before .before .before .before .before .before .before in
     let a = s .args in
     let l = statesOf (a .shape .cores) (a .shape .jobs) (now (a .half)) (a .n) in
-    (λ seen n. ap (λ (e : Edge). followed (jobsIn (a .shape) (now (a .rows))) (a .shape .capacity) (stateIn (a .shape) (now (a .cur))) e l seen n) (sym (c .enum-told .given .1)), s .pre .0 .target)
+    (λ seen n. ap (λ (e : Edge). followed (jobsIn (a .shape) (now (a .rows))) (a .shape .capacity) (stateIn (a .shape) (now (a .cur))) e l seen n) (sym (c .enum-told .given .1)), (s .pre .0 .target, record { state = refl; set = refl; front = refl }))
 
 deadline-requires : tie.Need-deadline-requires
 deadline-requires c κs =
@@ -40,7 +40,7 @@ returns-2 c =
     let σ = stateIn (a .shape) (now (a .cur)) in
     let l = statesOf (a .shape .cores) (a .shape .jobs) (now (a .half)) (a .n) in
     let late : job js (x .0 .0 .job) .deadline < x .0 .0 .latest = omega (arith, c .if1 .taken, c .before .deadline .ensures) in
-    (λ seen n. edge-late js (a .shape .capacity) σ (x .0 .0) l seen n late ∙ ap (λ (e : Edge). followed js (a .shape .capacity) σ e l seen n) (sym (x .1)), tt)
+    (λ seen n. edge-late js (a .shape .capacity) σ (x .0 .0) l seen n late ∙ ap (λ (e : Edge). followed js (a .shape .capacity) σ e l seen n) (sym (x .1)), (tt, record { state = refl; set = refl; front = refl }))
 
 store-successor-requires : tie.Need-store-successor-requires
 store-successor-requires c κs =
@@ -50,8 +50,8 @@ store-successor-requires c κs =
     let given = s .pre .0 in
     let half = given .target .0 in
     let job = s .pre .2 (x .0 .0) (x .1) in (
-      (job .0, given .setting .jobs, given .setting .cores, given .setting .few-cores, given .words, s .pre .1, given .sound .set-fits, fresh (jobsIn (a .shape) (now (a .rows))) (stateIn (a .shape) (now (a .cur))) (x .0 .0) (job .1), given .sound .bounded .ordered),
-      (omega (arith, half .long), half .room, λ j l. half .sound j l .set-fits, given .target .1),
+      (job .0, given .setting .jobs, given .setting .cores, given .setting .few-cores, given .words, s .pre .1, given .sound .set-fits, fresh (jobsIn (a .shape) (now (a .rows))) (stateIn (a .shape) (now (a .cur))) (x .0 .0) (job .1), given .sound .bounded .ordered, given .linkable),
+      (sym (half .long), half .room, λ j l. half .sound j l .set-fits, given .target .1),
     )
 
 same-length : tie.Need-same-length
@@ -76,7 +76,7 @@ returns-3 c =
     let r = c .before .before .before .before .before .before .store-successor .ensures in
     let timely : x .0 .0 .latest ≤ job js (x .0 .0 .job) .deadline = omega (arith, c .before .before .before .before .before .before .before .before .before .before .if1 .left, c .before .before .before .before .before .before .before .before .before .before .before .deadline .ensures) in (
       λ seen n. r .0 seen n ∙ edge-kept js (a .shape .capacity) σ (x .0 .0) l seen n timely ∙ ap (λ (e : Edge). followed js (a .shape .capacity) σ e l seen n) (sym (x .1)),
-      r .1 js (given .target .0) (new-bounded js σ (x .0 .0) (job′ .1) latestTime (given .setting .timed) (given .sound .bounded) (inside (now (a .rows)) (a .shape .jobs) (a .shape .cores) (given .setting) (x .0 .0 .job) (job′ .0)) timely),
+      (r .1 .0 js (given .target .0) (new-bounded js σ (x .0 .0) (job′ .1) latestTime (given .setting .timed) (given .sound .bounded) (inside (now (a .rows)) (a .shape .jobs) (a .shape .cores) (given .setting) (x .0 .0 .job) (job′ .0)) timely), r .1 .1),
     )
 
 pub follow-spec : {M : Type 1} → statement M

@@ -1,0 +1,2 @@
+-- Laws of the spare words of a state.
+pub mod Spare

@@ -1,0 +1,2 @@
+-- The spare words of a state.
+pub mod internal

@@ -1,0 +1,2 @@
+-- Vocabulary of internal contracts: no public contract cites it.
+pub mod Spare
