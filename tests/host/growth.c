@@ -6,7 +6,8 @@
  * has an edge for each stroke that has not started, which makes K times 2 to the K - 1 (up to K = 14 the second checker was seen to count as many).
  *
  * First 10 strokes, 12 and so on up to K, each phrase in a table just long enough. It has to be accepted, with these states, and in one word less be refused
- * with 13 at level K/2. Then 20 strokes in tables that are too short, until one is longer than the last of those before. Times are the best of some calls.
+ * with 13 at level K/2. Then 20 strokes in tables that are too short, until one is longer than the last of those before, or would be long enough. Times are the
+ * best of some calls.
  *
  * Exit status: 0 when the answers are as said, 1 when one is not, 2 on wrong usage or when memory is short.
  */
@@ -40,6 +41,12 @@ static size_t widest(unsigned count)
     for (i = 1; i <= count / 2; i++)
         ways = ways * (count / 2 + i) / i;
     return ways;
+}
+
+/* The fewest words for so many strokes. */
+static size_t words_for(unsigned count)
+{
+    return widest(count) * 2 * (6 + 2 * (size_t)count);
 }
 
 static double milliseconds(void)
@@ -89,7 +96,7 @@ static size_t print_exact(unsigned count)
 {
     static uint8_t text[PHRASE_TEXT_BYTES + 1];
     struct file file = strokes(count);
-    size_t words = widest(count) * 2 * (6 + 2 * (size_t)count), edges = (size_t)count << (count - 1);
+    size_t words = words_for(count), edges = (size_t)count << (count - 1);
     uint32_t *table = lent(words);
     uint64_t answer;
     char line[64];
@@ -124,8 +131,8 @@ int main(int argc, char **argv)
 {
     unsigned most = argc == 2 ? (unsigned)atoi(argv[1]) : 0, count;
     size_t longest = 0, words;
-    if (most < FEWEST || most >= MOST) {
-        fprintf(stderr, "usage: growth K, with K from %d to %d\n", FEWEST, MOST - 1);
+    if (most < FEWEST || most > MOST) {
+        fprintf(stderr, "usage: growth K, with K from %d to %d\n", FEWEST, MOST);
         return 2;
     }
     setvbuf(stdout, NULL, _IOLBF, 0);
@@ -133,7 +140,7 @@ int main(int argc, char **argv)
     for (count = FEWEST; count <= most; count += 2)
         longest = print_exact(count);
     printf("\n| words | states in a level | 13 at level | ms |\n|--:|--:|--:|--:|\n");
-    for (words = PHRASE_TABLE_WORDS; words < 2 * longest; words *= 2)
+    for (words = PHRASE_TABLE_WORDS; words < 2 * longest && words < words_for(MOST); words *= 2)
         print_short(words);
     return failed;
 }

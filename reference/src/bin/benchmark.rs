@@ -7,7 +7,7 @@ use std::time::{Duration, Instant};
 
 use reference::check::check;
 use reference::dispatch::Scenario;
-use reference::draft::{Draft, playing_bytes};
+use reference::draft::{Draft, DraftBell, DraftNote, playing_bytes};
 use reference::events::by_events;
 use reference::examples::P;
 use reference::foreign::{self, HostPhrase};
@@ -30,6 +30,7 @@ fn main() {
     print_reading_tables();
     print_playing_table();
     print_analysis_tables();
+    print_growth_table();
 }
 
 fn print_reading_tables() {
@@ -84,6 +85,84 @@ fn print_analysis_tables() {
         let (file, words) = crowded(32, 4, states..=2 * states);
         print_analysis(&file, words, 1);
     }
+}
+
+/// Strokes that may go in any order: their widest level has as many states as there are ways to choose half of them.
+fn print_growth_table() {
+    println!("\nAnalysis of strokes that may go in any order, in a table just long enough\n");
+    let columns = " ms, library | this | ratio | ns/edge, library | this |";
+    println!("| K | states in the widest level | words | states | edges |{columns}");
+    println!("|--:|--:|--:|--:|--:|--:|--:|--:|--:|--:|");
+    for strokes in [10, 12, 14, 16, 18, 20] {
+        print_growth(strokes);
+    }
+}
+
+/// This checker is left out where it would take minutes; then the library's count of states is all that is compared.
+fn print_growth(strokes: u8) {
+    const MOST_STROKES_TIMED: u8 = 14;
+    let file = any_order(strokes);
+    let count = u64::from(strokes);
+    let (states, edges) = (1u64 << count, count << (count - 1));
+    let widest = (1..=count / 2).fold(1, |ways, i| ways * (count / 2 + i) / i);
+    let words = pair_words(&file) * widest as usize;
+    let mut table = vec![0xA5A5_A5A5; words];
+    if strokes <= MOST_STROKES_TIMED {
+        agree(&file, words);
+        let walk = walk(&phrase(&file), words);
+        assert_eq!(
+            (walk.states, walk.edges, walk.peak),
+            (states, edges, widest)
+        );
+    }
+    assert_eq!(library_states(&file, &mut table), Some(states));
+    let library = few_rounds(&mut || foreign::phrase_check_with(black_box(&file), &mut table));
+    let per_edge = |time: f64| format!("{:.0}", time / edges as f64);
+    let (own_time, ratio, own_edge) = if strokes <= MOST_STROKES_TIMED {
+        let own = few_rounds(&mut || check(black_box(&file), words).host_number());
+        (
+            format!("{:.3}", own / 1e6),
+            format!("{:.2}", library / own),
+            per_edge(own),
+        )
+    } else {
+        Default::default()
+    };
+    println!(
+        "| {strokes} | {widest} | {words} | {states} | {edges} | {:.3} | {own_time} | {ratio} | {} | {own_edge} |",
+        library / 1e6,
+        per_edge(library)
+    );
+}
+
+/// The best of a few calls: those of wide levels take long.
+fn few_rounds(call: &mut dyn FnMut() -> u64) -> f64 {
+    const ROUNDS: u32 = 5;
+    let [time] = best_of(ROUNDS, [call]);
+    time
+}
+
+/// The count of states in the library's text.
+fn library_states(file: &[u8], table: &mut [u32]) -> Option<u64> {
+    let mut text = vec![0; TEXT_BYTES];
+    let length = foreign::phrase_report_with(file, table, &mut text);
+    let text = std::str::from_utf8(&text[..length]).ok()?;
+    let (_, after) = text.split_once(" states ")?;
+    after.split([' ', '\n']).next()?.parse().ok()
+}
+
+/// Strokes on bells of their own, all called at 0..400, on two drivers.
+fn any_order(strokes: u8) -> Vec<u8> {
+    let bells = (0..strokes).map(|i| DraftBell {
+        written: 60 + i,
+        transposition: 0,
+        ca: 10,
+        cb: 20,
+        rest: None,
+        rank: 1,
+    });
+    let notes = (0..strokes).map(|i| DraftNote::new(60 + i, 0, 400, 3_600_000, Vec::new()));
+    Draft::new(2, bells.collect(), notes.collect()).bytes()
 }
 
 /// The heads of three columns.
