@@ -100,7 +100,7 @@ fn print_growth_table() {
 
 /// This checker is left out where it would take minutes; then the library's count of states is all that is compared.
 fn print_growth(strokes: u8) {
-    const MOST_STROKES_TIMED: u8 = 14;
+    const MOST_STROKES_TIMED: u8 = 16;
     let file = any_order(strokes);
     let count = u64::from(strokes);
     let (states, edges) = (1u64 << count, count << (count - 1));
