@@ -1,5 +1,5 @@
 /*
- * growth K: how the check's time grows with the number of states in a level, and with the table. docs/PERFORMANCE.md has what `growth 16` printed.
+ * growth K: how the check's time grows with the number of states in a level, and with the table. docs/PERFORMANCE.md has what `growth 20` printed.
  *
  * The phrases: strokes on bells of their own, all called at 0..400, on two drivers. Any set of them may be the one that has started, with one state for each.
  * So K strokes have 2 to the K states; the widest level, K/2, has as many as there are ways to choose K/2 of K, and a state takes W = 6 + 2 K words. A state
