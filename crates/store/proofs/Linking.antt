@@ -4,7 +4,6 @@ use mathlib.Core.Path.{_≡_, refl, sym, ap, _∙_, subst}
 use mathlib.Core.Logic.{⊎-elim}
 use mathlib.Core.Bool.{Bool, true, false, cond}
 use mathlib.Core.List.{List}
-use native.Mathlib.Nat.{add-zero}
 use native.Mathlib.Numerals.{lt-of-le-of-ne}
 use native.Mathlib.Decide.{ℕ-discrete}
 use native.Mathlib.Omega.{arith}
@@ -13,7 +12,6 @@ use lib.ListN.{getD, length}
 use borrow.Author.Count.{below-more}
 use borrow.Author.Tests.{ltb-true, ltb-false, lt-ltb, le-ltb, leb-false}
 use Rattle.model.specs.Exploration.{stateWords}
-use Rattle.words.proofs.Parts.{part-get}
 use Rattle.states.specs.internal.Slots.{setOf, stateOf, slotOf}
 use Rattle.links.specs.internal.Spare.{spareOf, linkOf, headOf}
 use Rattle.store.specs.internal.Half.{OthersKept, KeptAt, Put}
@@ -21,6 +19,7 @@ use Rattle.store.specs.internal.Chains.{LastBefore}
 use Rattle.store.specs.internal.Index.{bucketOf, bucketAt, linkAt, slotHead, headRoom, headAt, Fits, Spared, usedOf, Linked, Indexed, SpareKept}
 use Rattle.store.specs.declared.Index.{Index}
 use Rattle.store.proofs.Storing.{slot-fits}
+use Rattle.store.proofs.Slots.{first-word}
 use Rattle.store.proofs.Indexing.{bucket-inside}
 use Rattle.store.proofs.Chains.{chains-same, chains-first, chains-last}
 
@@ -40,15 +39,12 @@ module _ (m k : ℕ) (index : Index) where
 
   -- ---- heads
 
-  first-word : (ws : List ℕ) (b : ℕ) → getD (slotOf m k ws b) 0 0 ≡ getD ws (b * W) 0
-  first-word ws b = part-get (b * W) W ws 0 (omega arith) ∙ ap (λ (z : ℕ). getD ws z 0) (add-zero (b * W))
-
   head-in : (ws : List ℕ) (used b : ℕ) → b < used → slotHead m k ws used b ≡ headOf m k (slotOf m k ws b)
   head-in ws used b h = ap (λ (t : Bool). cond t (headOf m k (slotOf m k ws b)) (getD ws (b * W) 0)) (lt-ltb b used h)
 
   head-past : (ws : List ℕ) (used b : ℕ) → used ≤ b → slotHead m k ws used b ≡ getD (slotOf m k ws b) 0 0
   head-past ws used b h =
-      ap (λ (t : Bool). cond t (headOf m k (slotOf m k ws b)) (getD ws (b * W) 0)) (le-ltb b used h) ∙ sym (first-word ws b)
+      ap (λ (t : Bool). cond t (headOf m k (slotOf m k ws b)) (getD ws (b * W) 0)) (le-ltb b used h) ∙ sym (first-word m k ws b)
 
   -- heads that are not in slots stay
   head-same : (ws vs heads : List ℕ) (used used′ b : ℕ) → (headRoom < index .buckets → slotHead m k vs used′ b ≡ slotHead m k ws used b)
@@ -173,7 +169,7 @@ module _ (m k : ℕ) (index : Index) where
         where
           at : Dec (b ≡ n) → n ≤ b → slotHead m k mid (n + 1) b ≡ slotHead m k half n b
           at (yes z) g =
-              rw z (head-in mid (n + 1) n (omega arith) ∙ start .moved ∙ sym (first-word half n) ∙ sym (head-past half n n (omega arith)))
+              rw z (head-in mid (n + 1) n (omega arith) ∙ start .moved ∙ sym (first-word m k half n) ∙ sym (head-past half n n (omega arith)))
           at (no d) g =
               head-past mid (n + 1) b (omega (arith, lt-of-le-of-ne g (λ z. d (sym z)))) ∙ ap (λ (z : List ℕ). getD z 0 0) (slot b l d)
               ∙ sym (head-past half n b g)

@@ -109,7 +109,7 @@ module _ (m k j w : ℕ) (e : w ≡ stateWords m k) (half : List ℕ) (h : j * s
 -- ---- heads in slots
 
 -- the first word of slot j
-first-word : (m k : ℕ) (ws : List ℕ) (j : ℕ) → getD (slotOf m k ws j) 0 0 ≡ getD ws (j * stateWords m k) 0
+pub first-word : (m k : ℕ) (ws : List ℕ) (j : ℕ) → getD (slotOf m k ws j) 0 0 ≡ getD ws (j * stateWords m k) 0
 first-word m k ws j =
     part-get (j * stateWords m k) (stateWords m k) ws 0 (omega arith) ∙ ap (λ (z : ℕ). getD ws z 0) (add-zero (j * stateWords m k))
 
