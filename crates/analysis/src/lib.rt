@@ -1,2 +1,4 @@
 // The analysis over a lent table.
+#![tactic(auto)]
+
 pub mod levels;

@@ -1,4 +1,6 @@
 // A phrase file checked over a lent table.
+#![tactic(auto)]
+
 ghost use Rattle.std.specs.Prelude.{◌≡◌, length, drop};
 ghost use Rattle.model.specs.Guarantee.{WellFormed};
 ghost use Rattle.format.specs.Outcome.{ok};

@@ -1,6 +1,8 @@
 // Checks example files from standard input, each after three pairs of bytes that say how many words the table has, how many of them the check may use,
 // and how long the file is. Prints each result, whether the entries beyond its jobs are zero, and whether all other words of the table, which held
 // something before, are unchanged.
+#![tactic(auto)]
+
 use checker::check;
 use libc::STDIN_FILENO;
 use phrase::TABLE_WORDS;

@@ -1,4 +1,6 @@
 // What a check answers: its result, in code. specs/ has the verdict, the result that carries it, and what is promised of both.
+#![tactic(auto)]
+
 ghost use Rattle.std.specs.Prelude.{◌≡◌};
 ghost use Rattle.checking.specs.Checking.{refusing};
 

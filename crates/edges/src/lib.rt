@@ -1,5 +1,7 @@
 // Which jobs may start next in a state, and when. There are k jobs, in `rows`, and m cores; the words `s` are the state. The test of a candidate takes the
 // steps of source document 004 in its order; numbers in brackets are those of its equations, names such as EST are document 01's.
+#![tactic(auto)]
+
 ghost use Rattle.std.specs.Prelude.{◌≡◌, suc, ◌<◌, ◌≤◌, max, true, not, cond, ◌&&◌, List, eqb, pos, ◌-ℤ◌, length, take};
 ghost use Rattle.model.specs.Limits.{most_jobs};
 ghost use Rattle.model.specs.Folds.{every, member};

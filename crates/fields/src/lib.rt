@@ -1,4 +1,6 @@
 // The fields of a record of the file: read, and written to a row; and their rules.
+#![tactic(auto)]
+
 pub mod bells;
 pub mod bytes;
 pub mod header;

@@ -1,1 +1,3 @@
 // The phrase file as definitions (specs/) and what is proved of them (proofs/); no code.
+#![tactic(auto)]
+

@@ -1,4 +1,6 @@
 // The rows of a phrase's jobs, made from the table of the phrase.
+#![tactic(auto)]
+
 ghost use Rattle.std.specs.Prelude.{◌≡◌, ◌++◌, ◌+◌, ◌*◌, ◌≤◌, ◌<◌, get_or, length};
 ghost use Rattle.model.specs.Limits.{most_jobs};
 ghost use Rattle.model.specs.Jobs.{job, nearest, as_list, predecessors};

@@ -1,5 +1,7 @@
 // The spare words of a state: the finish times of the first job that has not started say nothing, so the index of a level keeps a head and a link there: the
 // head nearer to the set, for it is read with each search. A state in which every job has started has none.
+#![tactic(auto)]
+
 ghost use Rattle.std.specs.Prelude.{◌≡◌, ◌≤◌, ◌<◌, length};
 ghost use Rattle.model.specs.Limits.{most_cores, most_jobs};
 ghost use Rattle.model.specs.Exploration.{state_words};

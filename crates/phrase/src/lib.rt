@@ -1,4 +1,6 @@
 // What a host program in C calls: check and report, over a lent table or a table of their own; and, for editors, read, write and play.
+#![tactic(auto)]
+
 mod editing;
 mod playback;
 

@@ -1,4 +1,6 @@
 // Checks the phrase file on standard input and prints the report.
+#![tactic(auto)]
+
 use libc::{STDIN_FILENO, STDOUT_FILENO};
 use phrase::TABLE_WORDS;
 use report::report;

@@ -1,4 +1,6 @@
 // A playing of a phrase file, worked out: the phrase is read, then its playing, then the run.
+#![tactic(auto)]
+
 ghost use Rattle.std.specs.Prelude.{◌≡◌, replicate};
 ghost use Rattle.model.specs.Limits.{most_jobs};
 ghost use Rattle.model.specs.Guarantee.{WellFormed};

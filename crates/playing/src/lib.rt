@@ -1,5 +1,7 @@
 // A playing of a phrase, read: its calls and holds, and whether they lie in the phrase's ranges. specs/ has what a playing is, the run that it gives, and
 // what is promised of it.
+#![tactic(auto)]
+
 pub mod answers;
 mod inside;
 pub mod scenario;

@@ -1,4 +1,6 @@
 // What the example programs share: how words and the result of a check are printed, and how examples stand in their input.
+#![tactic(auto)]
+
 ghost use Rattle.std.specs.Prelude.{◌+◌, ◌≤◌, ◌<◌, length};
 ghost use Rattle.printing.specs.internal.Files.{FileIn, ExampleIn};
 

@@ -1,4 +1,6 @@
 // The range of finish times that was observed of a job so far, widened by an edge.
+#![tactic(auto)]
+
 ghost use Rattle.std.specs.Prelude.{◌≡◌};
 ghost use Rattle.ranges.specs.internal.Ranges.{widened_by};
 

@@ -1,4 +1,6 @@
 // The phrase file, read into a table of words.
+#![tactic(auto)]
+
 ghost use Rattle.std.specs.Prelude.{◌≡◌, ◌+◌, ◌*◌, ◌≤◌, ◌<◌, length};
 ghost use Rattle.model.specs.Limits.{most_jobs};
 ghost use Rattle.format.specs.Bytes.{number};

@@ -1,5 +1,7 @@
 // Reads example files from standard input, each after two bytes that say how long it is, and prints what is made of each: every bell and every job, or
 // the refusal; and whether all other words of the rows of bells and of notes, which held something before, are zero.
+#![tactic(auto)]
+
 ghost use Rattle.rows.specs.internal.Handed.{HandedOn};
 
 use jobs::row::{BELL, JOB_TABLE, LISTED_COUNT, REST, ROW_WORDS};

@@ -1,4 +1,6 @@
 // The report of a check: a file is read and checked, and its text written into a lent buffer.
+#![tactic(auto)]
+
 mod accepted;
 
 ghost use Rattle.std.specs.Prelude.{◌≡◌, ◌≤◌, length};

@@ -2,6 +2,8 @@
 // and how long the file is. Prints each text and its length, and whether the bytes of the buffer after it, which held something before, are unchanged;
 // then the answer with all that it carries, and whether the entries beyond its jobs are zero. The first examples are worked by hand, the others are the
 // second checker's; reference/src/bin/vectors.rs has both and makes `stdin` and `stdout`.
+#![tactic(auto)]
+
 use check::same;
 use libc::{STDIN_FILENO, STDOUT_FILENO};
 use phrase::TABLE_WORDS;

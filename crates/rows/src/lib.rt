@@ -1,4 +1,6 @@
 // The table of words in which a phrase is handed on, in the order of a C struct: a header, a row for each bell, and a row for each note.
+#![tactic(auto)]
+
 pub mod bell;
 pub mod note;
 

@@ -1,4 +1,6 @@
 // The rules of the phrase file, asked of a phrase in words.
+#![tactic(auto)]
+
 pub mod answers;
 mod bells;
 mod notes;

@@ -1,4 +1,6 @@
 // States in words: their sizes, how they are read and copied, and how they change by the start of a job and by a merge.
+#![tactic(auto)]
+
 pub mod copying;
 pub mod merging;
 pub mod reading;

@@ -1,4 +1,6 @@
 // A level of states, stored in a half of the table, with an index by their sets.
+#![tactic(auto)]
+
 ghost use Rattle.std.specs.Prelude.{◌≡◌, List, ℕ, ◌+◌, ◌*◌, ◌^◌, ◌≤◌, ◌<◌, length, get_or};
 ghost use Rattle.model.specs.Jobs.{Job};
 ghost use Rattle.model.specs.Limits.{most_cores, most_jobs};

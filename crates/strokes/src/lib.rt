@@ -1,4 +1,6 @@
 // The lines of a report's strokes, from the table of a phrase and the bounds of its jobs.
+#![tactic(auto)]
+
 ghost use Rattle.std.specs.Prelude.{◌≡◌, ◌*◌, ◌≤◌, ◌<◌, length};
 ghost use Rattle.model.specs.Limits.{most_jobs};
 ghost use Rattle.text.specs.internal.Written.{Room, Written};

@@ -1,4 +1,6 @@
 // The lines of a report that accepts after those of its strokes: a line for each bell with any stroke, and the last.
+#![tactic(auto)]
+
 mod bells;
 
 ghost use Rattle.std.specs.Prelude.{◌≡◌, ◌≤◌, length};

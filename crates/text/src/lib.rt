@@ -1,4 +1,6 @@
 // Text written into a buffer: fixed bytes, decimal numbers, names of keys, and how long these are. A writer answers where its text ends.
+#![tactic(auto)]
+
 ghost use Rattle.std.specs.Prelude.{◌≡◌, [], ◌∷◌, ◌+◌, ◌/◌, ◌%◌, ◌≤◌, ◌<◌, get_or, length, take};
 ghost use Rattle.text.specs.Decimal.{digit, decimal};
 ghost use Rattle.text.specs.Keys.{names, key_text};

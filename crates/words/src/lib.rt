@@ -1,4 +1,6 @@
 // Words: copies of them, zeros, the larger and the smaller of two, and what lent parts leave.
+#![tactic(auto)]
+
 ghost use Rattle.std.specs.Prelude.{◌≡◌, min, max, length, replicate};
 
 // Copies `src` into `dst`.

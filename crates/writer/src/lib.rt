@@ -1,4 +1,6 @@
 // A phrase in words, written as a phrase file: its fields are tested, then the file is put straight into the buffer.
+#![tactic(auto)]
+
 mod putting;
 
 ghost use Rattle.std.specs.Prelude.{◌≡◌, length};
