@@ -22,7 +22,7 @@ use store::{HEAD_ROOM, Index};
 use words::clear;
 
 // What the analysis ends with.
-#[derive(Drop)]
+#[derive(Clone, Copy)]
 pub enum Analysed {
     // Every job meets its deadline; so many states were stored.
     Accepted(u64),
@@ -33,7 +33,7 @@ pub enum Analysed {
 }
 
 // Where a level stands: its states, from word `from` of the table on. The next is built from word `to` on.
-#[derive(Drop)]
+#[derive(Clone, Copy)]
 pub struct Level {
     pub from: usize,
     pub states: usize,

@@ -7,7 +7,7 @@ ghost use Rattle.checking.specs.Checking.{refusing};
 use model::limits::MOST_JOBS;
 
 // Refusals with their number and place; a late job with its finish times.
-#[derive(Drop)]
+#[derive(Clone, Copy)]
 pub enum Answer {
     Accepted,
     Refused(u32, usize),
@@ -15,7 +15,7 @@ pub enum Answer {
 }
 
 // The answer, the number of jobs, for each job the bounds of its finish time and of its response, and the number of states stored.
-#[derive(Drop)]
+#[derive(Clone, Copy)]
 pub struct Checked {
     pub answer: Answer,
     pub jobs: usize,

@@ -33,7 +33,7 @@ const ALL_JOBS: u64 = 18446744073709551615;
 // Every moment is below this, so that one has room in a word beside a job's place in the order of priority.
 const MOMENTS: u64 = 67108864;
 
-#[derive(Drop)]
+#[derive(Clone, Copy)]
 pub enum Edge {
     NotEligible,
     // The job, its earliest start, and its finish times.
@@ -41,7 +41,7 @@ pub enum Edge {
 }
 
 // What all edges of a state share: the work-conserving bound, and how many jobs are listed that may hold others back.
-#[derive(Drop)]
+#[derive(Clone, Copy)]
 pub struct Surveyed {
     pub bound: u32,
     pub holders: usize,

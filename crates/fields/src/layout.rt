@@ -6,7 +6,7 @@ ghost use Rattle.format.specs.internal.Sized.{Sized};
 ghost use Rattle.fields.specs.internal.Layouts.{layout_of};
 
 // The widths of what not every version has: 0 where it has none.
-#[derive(Drop)]
+#[derive(Clone, Copy)]
 pub struct Layout {
     pub shift: usize,
     pub rest: usize,

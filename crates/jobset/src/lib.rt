@@ -30,7 +30,7 @@ use rows::note::{
 use rows::{NOTE_COUNT, PHRASE_WORDS, bell_word, note_word};
 
 // The number of the job that was looked for.
-#[derive(Drop)]
+#[derive(Clone, Copy)]
 pub enum Found {
     At(u32),
     Nothing,

@@ -10,7 +10,7 @@ use model::refusals::{LATE_JOB, LEVEL_FULL};
 use text::{put_bytes, put_decimal, put_key};
 
 // What the line of a stroke shows.
-#[derive(Drop)]
+#[derive(Clone, Copy)]
 pub struct Stroke {
     pub number: usize,
     pub key: u32,
@@ -23,7 +23,7 @@ pub struct Stroke {
 }
 
 // What the line of a bell shows.
-#[derive(Drop)]
+#[derive(Clone, Copy)]
 pub struct BellTotal {
     pub number: usize,
     pub strokes: u32,

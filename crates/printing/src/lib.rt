@@ -117,7 +117,7 @@ fn two_bytes(input: &[u8], at: usize) -> usize
 }
 
 // Where the file of an example begins and ends in the input; nothing where the input ends before.
-#[derive(Drop)]
+#[derive(Clone, Copy)]
 pub enum Next {
     File(usize, usize),
     Nothing,
@@ -144,7 +144,7 @@ pub fn next_file(input: &[u8], at: usize, head: usize) -> Next
 const HEAD: usize = 6;
 
 // The two numbers of an example, and where its file begins and ends.
-#[derive(Drop)]
+#[derive(Clone, Copy)]
 pub struct Example {
     pub first: usize,
     pub second: usize,
@@ -152,7 +152,7 @@ pub struct Example {
     pub end: usize,
 }
 
-#[derive(Drop)]
+#[derive(Clone, Copy)]
 pub enum NextExample {
     Found(Example),
     Nothing,

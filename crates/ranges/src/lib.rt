@@ -7,7 +7,7 @@ ghost use Rattle.ranges.specs.internal.Ranges.{widened_by};
 use words::{larger, smaller};
 
 // From the earliest to the latest finish time; the latest is 0 where nothing was observed.
-#[derive(Drop)]
+#[derive(Clone, Copy)]
 pub struct FinishRange {
     pub earliest: u32,
     pub latest: u32,

@@ -34,7 +34,7 @@ use rows::{
 use words::clear;
 
 // What the header of a table says.
-#[derive(Drop)]
+#[derive(Clone, Copy)]
 pub struct Counts {
     pub version: u32,
     pub cores: u32,

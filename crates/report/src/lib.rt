@@ -20,7 +20,7 @@ use model::refusals::SHORT_BUFFER;
 use rows::PHRASE_WORDS;
 
 // The result of the check, and the length of the text.
-#[derive(Drop)]
+#[derive(Clone, Copy)]
 pub struct Reported {
     pub checked: Checked,
     pub length: usize,

@@ -1,7 +1,7 @@
 // What writing answers.
 
 // The file's length, or the refusal's number and place.
-#[derive(Drop)]
+#[derive(Clone, Copy)]
 pub enum Writing {
     Written(usize),
     Refused(u32, usize),

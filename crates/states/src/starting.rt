@@ -13,7 +13,7 @@ use crate::sizes::SET_WORDS;
 use words::{larger, smaller};
 
 // A job that starts: when at the earliest, and when it finishes at the earliest and at the latest.
-#[derive(Drop)]
+#[derive(Clone, Copy)]
 pub struct JobStart {
     pub job: usize,
     pub start: u32,

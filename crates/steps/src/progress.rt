@@ -1,5 +1,5 @@
 // What exploring leaves in the half of the next level.
-#[derive(Drop)]
+#[derive(Clone, Copy)]
 pub enum Progress {
     // It holds so many states.
     Going(usize),

@@ -18,7 +18,7 @@ use states::merging::{can_merge, merge_into};
 use states::reading::{WORD, started_set};
 use states::sizes::state_words;
 
-#[derive(Drop)]
+#[derive(Clone, Copy)]
 pub enum Stored {
     // The half now holds so many states.
     At(usize),
@@ -27,7 +27,7 @@ pub enum Stored {
 }
 
 // The index of a level: the states in so many slots, the first ones, are linked; so many buckets their sets fall into.
-#[derive(Drop)]
+#[derive(Clone, Copy)]
 pub struct Index {
     pub linked: usize,
     pub buckets: usize,
@@ -35,7 +35,7 @@ pub struct Index {
 
 // How a search along the links ended: the bucket of the new state, the state that can merge with it, and the last one of the bucket before that. Where there
 // is none, the number of linked states.
-#[derive(Drop)]
+#[derive(Clone, Copy)]
 pub struct Search {
     pub bucket: usize,
     pub merging: usize,

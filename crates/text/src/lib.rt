@@ -82,7 +82,7 @@ pub fn digits(n: u64) -> usize
 }
 
 // The bytes of a note's name, and how many of them it has.
-#[derive(Drop)]
+#[derive(Clone, Copy)]
 struct Name([u8; 2], usize);
 
 const NAMES: [Name; 12] = [
