@@ -5,3 +5,4 @@ pub mod Bounds
 pub mod Promise
 pub mod Certain
 pub mod Refusals
+pub mod examples

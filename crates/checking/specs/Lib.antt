@@ -1,4 +1,3 @@
 -- The check of a phrase file: its verdict, the result that carries it, and the promise about every run.
 pub mod Checking
 pub mod Certain
-pub mod examples

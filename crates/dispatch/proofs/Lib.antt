@@ -5,3 +5,4 @@ pub mod Histories
 pub mod Moments
 pub mod Turning
 pub mod Beginning
+pub mod examples

@@ -1,3 +1,2 @@
 -- The run of one playing, in words.
-pub mod examples
 pub mod internal

@@ -6,3 +6,4 @@ pub mod Rests
 pub mod Sharing
 pub mod Edges
 pub mod Holders
+pub mod examples

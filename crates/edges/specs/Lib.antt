@@ -1,3 +1,2 @@
 -- Edges in words.
 pub mod internal
-pub mod examples

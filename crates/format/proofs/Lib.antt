@@ -24,3 +24,4 @@ pub mod Retold
 pub mod Order
 pub mod Before
 pub mod Shifting
+pub mod examples

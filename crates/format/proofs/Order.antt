@@ -14,9 +14,9 @@ use Rattle.format.specs.Outcome.{Outcome, ok, refused, ◌>>◌, require}
 use Rattle.format.specs.Phrase.{Bell, Note, Phrase, find, is_some}
 use Rattle.format.specs.Rules.{is_shift, are_times, rises, note_rules, all_bells, rules}
 use Rattle.format.specs.Reading.{note_in, bells_in, reading}
-use Rattle.format.specs.examples.Files.{Case, note, noted}
-use Rattle.format.specs.examples.Phrases.{Case as Asked}
-use Rattle.format.specs.examples.Orders.{table, asked_table}
+use Rattle.format.proofs.examples.Files.{Case, note, noted}
+use Rattle.format.proofs.examples.Phrases.{Case as Asked}
+use Rattle.format.proofs.examples.Orders.{table, asked_table}
 use Rattle.format.proofs.AnyRules.{NoteRules, note_record_with, notes_from_with, notes_in_with, reading_by_with, reading_with, notes_rules_with, all_notes_with, rules_by_with, rules_with, reading_now, rules_now}
 use Rattle.format.proofs.Retold.{Test, in_file, in_phrase, retold, Told, told_value, told_require, reading_told, rules_told}
 

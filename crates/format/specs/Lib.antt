@@ -10,5 +10,4 @@ pub mod Valid
 pub mod Writing
 pub mod Fits
 pub mod Shifting
-pub mod examples
 pub mod internal

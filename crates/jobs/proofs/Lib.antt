@@ -3,3 +3,4 @@ pub mod Jobs
 pub mod Order
 pub mod Rests
 pub mod JobRow
+pub mod examples

@@ -1,3 +1,2 @@
 -- Jobs in words.
 pub mod internal
-pub mod examples

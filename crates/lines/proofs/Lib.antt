@@ -1,3 +1,4 @@
 -- Laws of the lines of a report and of their lengths.
 pub mod LineLengths
 pub mod Series
+pub mod examples

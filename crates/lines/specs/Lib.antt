@@ -1,4 +1,3 @@
 -- The lines of a report, to the byte.
 pub mod Lines
-pub mod examples
 pub mod internal

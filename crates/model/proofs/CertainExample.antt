@@ -12,8 +12,8 @@ use Rattle.model.specs.Exploration.{accepted, late, analysis}
 use Rattle.model.specs.Guarantee.{WellFormed, Admissible}
 use Rattle.model.specs.Playing.{finish_time}
 use Rattle.model.specs.Certain.{Certain, only_scenario, run_verdict, Decided}
-use Rattle.model.specs.examples.Marked.{resting}
-use Rattle.model.specs.examples.Instances.{of_two}
+use Rattle.model.proofs.examples.Marked.{resting}
+use Rattle.model.proofs.examples.Instances.{of_two}
 use Rattle.model.proofs.Folds.{not_in_nil}
 use Rattle.model.proofs.Certain.{decided, accepted_exactly, both_ends, told_late, only_times}
 

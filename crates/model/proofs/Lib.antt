@@ -31,3 +31,4 @@ pub mod Sorted
 pub mod Bounds
 pub mod Eligibility
 pub mod StartedSet
+pub mod examples

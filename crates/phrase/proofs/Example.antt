@@ -2,7 +2,7 @@
 use Rattle.model.specs.Exploration.{analysis}
 use Rattle.model.proofs.Example.{kept}
 use Rattle.format.specs.Reading.{reading}
-use Rattle.format.specs.examples.Files.{file_p}
+use Rattle.format.proofs.examples.Files.{file_p}
 use Rattle.checking.specs.Checking.{verdict, Playable}
 use Rattle.phrase.specs.Host.{table_words}
 

@@ -3,3 +3,4 @@ pub mod Numbers
 pub mod Example
 pub mod Rereading
 pub mod Played
+pub mod examples

@@ -1,3 +1,2 @@
 -- What a host gets.
 pub mod Host
-pub mod examples

@@ -14,8 +14,7 @@ use rules::answers::Writing;
 use writer::write;
 
 // Reads a phrase file. What was read is written as the very file.
-#[unsafe(no_mangle)]
-pub extern "C" fn phrase_read(file: &[u8], phrase: &mut [u32; PHRASE_WORDS]) -> u64
+pub fn phrase_read(file: &[u8], phrase: &mut [u32; PHRASE_WORDS]) -> u64
     ensures number { result ≡ outcome_number (reading file.now) }
     ensures phrase { phrase.new ≡ phrase_table (reading file.now) }
     ensures again { result ≡ 0 → writing (phrase_of phrase.new) (length file.now) ≡ ok file.now }
@@ -27,8 +26,7 @@ pub extern "C" fn phrase_read(file: &[u8], phrase: &mut [u32; PHRASE_WORDS]) -> 
 }
 
 // Writes a phrase as a file. What was written is read as the very phrase.
-#[unsafe(no_mangle)]
-pub extern "C" fn phrase_write(phrase: &[u32; PHRASE_WORDS], file: &mut [u8]) -> u64
+pub fn phrase_write(phrase: &[u32; PHRASE_WORDS], file: &mut [u8]) -> u64
     ensures number { result ≡ written_number (writing (phrase_of phrase.now) (length file.old)) }
     ensures file { file.new ≡ leaves (writing (phrase_of phrase.now) (length file.old)) file.old }
     ensures again { result < places → reading (take result file.new) ≡ ok (phrase_of phrase.now) }

@@ -1,8 +1,8 @@
-// What a host program in C calls: check and report, over a lent table or a table of their own; and, for editors, read, write and play.
+// What a host calls: check and report, over a lent table or a table of their own; and, for editors, read, write and play. phrase_c exports them for C.
 #![tactic(auto)]
 
-mod editing;
-mod playback;
+pub mod editing;
+pub mod playback;
 
 ghost use Rattle.std.specs.Prelude.{◌≡◌, ◌<◌, length};
 ghost use Rattle.format.specs.Reading.{reading};
@@ -42,8 +42,7 @@ fn number(answer: Answer) -> u64
 }
 
 // Checks a phrase file over a lent table.
-#[unsafe(no_mangle)]
-pub extern "C" fn phrase_check_with(file: &[u8], table: &mut [u32]) -> u64
+pub fn phrase_check_with(file: &[u8], table: &mut [u32]) -> u64
     ensures number { result ≡ number_for (reading file.now) (length table.old) }
     ensures table { TableKept (reading file.now) table.old table.new }
     ensures runs { result ≡ 0 → Playable (reading file.now)
@@ -57,8 +56,7 @@ pub extern "C" fn phrase_check_with(file: &[u8], table: &mut [u32]) -> u64
 }
 
 // Checks a phrase file.
-#[unsafe(no_mangle)]
-pub extern "C" fn phrase_check(file: &[u8]) -> u64
+pub fn phrase_check(file: &[u8]) -> u64
     ensures number { result ≡ number_for (reading file.now) table_words }
     ensures runs { result ≡ 0 → Playable (reading file.now) (verdict (reading file.now) table_words) }
     ensures certain { IsCertain (reading file.now) → NumberByRun (reading file.now) table_words result }
@@ -68,8 +66,7 @@ pub extern "C" fn phrase_check(file: &[u8]) -> u64
 }
 
 // Reports on a phrase file over a lent table.
-#[unsafe(no_mangle)]
-pub extern "C" fn phrase_report_with(file: &[u8], table: &mut [u32], text: &mut [u8]) -> usize
+pub fn phrase_report_with(file: &[u8], table: &mut [u32], text: &mut [u8]) -> usize
     ensures length { result ≡ length_in (text_of (reading file.now) (length table.old)) text.old }
     ensures short { result ≡ 0 → length text.old < length (text_of (reading file.now) (length table.old)) }
     ensures text { text.new
@@ -81,8 +78,7 @@ pub extern "C" fn phrase_report_with(file: &[u8], table: &mut [u32], text: &mut 
 }
 
 // Reports on a phrase file.
-#[unsafe(no_mangle)]
-pub extern "C" fn phrase_report(file: &[u8], text: &mut [u8]) -> usize
+pub fn phrase_report(file: &[u8], text: &mut [u8]) -> usize
     ensures length { result ≡ length_in (text_of (reading file.now) table_words) text.old }
     ensures short { result ≡ 0 → length text.old < length (text_of (reading file.now) table_words) }
     ensures text { text.new ≡ delivered (text_of (reading file.now) table_words) text.old }

@@ -13,8 +13,7 @@ use playing::answers::Admission;
 
 // Works out a playing of a phrase file. These are the starts and ends of its run; of a phrase that a check accepts, whatever its table, the ends lie in the
 // reported ranges and are in time.
-#[unsafe(no_mangle)]
-pub extern "C" fn phrase_play(
+pub fn phrase_play(
     file: &[u8],
     playing: &[u8],
     starts: &mut [u32; MOST_JOBS],

@@ -2,3 +2,4 @@
 pub mod Playings
 pub mod Admitted
 pub mod Outcomes
+pub mod examples

@@ -2,3 +2,4 @@
 pub mod FileReading
 pub mod Completing
 pub mod Handing
+pub mod examples

@@ -1,3 +1,2 @@
 -- The reader's answers and tables.
-pub mod examples
 pub mod internal

@@ -3,3 +3,4 @@ pub mod Outcomes
 pub mod BellReading
 pub mod Lookup
 pub mod NoteReading
+pub mod examples

@@ -1,3 +1,2 @@
 -- The records of a phrase file, read.
-pub mod examples
 pub mod internal

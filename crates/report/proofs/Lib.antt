@@ -3,3 +3,4 @@ pub mod Delivery
 pub mod Texts
 pub mod Totals
 pub mod Shifting
+pub mod examples

@@ -1,4 +1,3 @@
 -- The report of a check: its text, to the byte, and its result.
 pub mod Report
-pub mod examples
 pub mod internal

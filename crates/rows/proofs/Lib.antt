@@ -4,3 +4,4 @@ pub mod BellRow
 pub mod NoteRow
 pub mod RowsRead
 pub mod PhraseTable
+pub mod examples

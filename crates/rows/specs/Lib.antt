@@ -3,5 +3,4 @@ pub mod Rows
 pub mod BellRow
 pub mod NoteRow
 pub mod PhraseTable
-pub mod examples
 pub mod internal

@@ -6,3 +6,4 @@ pub mod Counting
 pub mod NoteAsked
 pub mod NoteLent
 pub mod Wholes
+pub mod examples

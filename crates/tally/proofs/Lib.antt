@@ -3,3 +3,4 @@ pub mod Counted
 pub mod Sums
 pub mod Tables
 pub mod Totals
+pub mod examples

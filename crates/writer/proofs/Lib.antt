@@ -4,3 +4,4 @@ pub mod PutBells
 pub mod PutNotes
 pub mod PutFile
 pub mod Writes
+pub mod examples

@@ -1,3 +1,2 @@
 -- What writing answers, and what it asks of what it puts.
-pub mod examples
 pub mod internal
