@@ -8,7 +8,7 @@ use lib.ListN.{length}
 use borrow.Author.Tests.{leb-true, le-leb}
 use Rattle.model.specs.Refusals.{short_file}
 use Rattle.format.specs.Bytes.{AreBytes}
-use Rattle.format.specs.Outcome.{Outcome, ok, refused, ◌>>◌, require}
+use Rattle.format.specs.Outcome.{Outcome, ok, ◌>>◌, require}
 use Rattle.format.specs.Phrase.{Phrase}
 use Rattle.format.specs.Rules.{rules}
 use Rattle.format.specs.Reading.{reading}

@@ -1,3 +1,2 @@
 // The phrase file as definitions (specs/) and what is proved of them (proofs/); no code.
 #![tactic(auto)]
-
