@@ -1,17 +1,16 @@
 -- `put_bytes` meets its contract: the bytes so far are those of the text.
-use Prim.Native.Nat.{ℕ, ◌+◌, ◌-◌, ◌≤◌}
-use mathlib.Core.Path.{◌≡◌, refl, ap, ◌∙◌}
+use Prim.Native.Nat.{ℕ, ◌+◌}
+use mathlib.Core.Path.{◌≡◌, ap, ◌∙◌}
 use mathlib.Core.List.{append_assoc}
 use native.Mathlib.Numerals.{add-one}
 use native.Mathlib.Omega.{arith}
 use lib.ListN.{length, take, drop, length-set}
-use lib.Seq.{paste, paste-zero, paste-suc, take-length}
-use borrow.Author.Rules.{rules}
+use lib.Seq.{paste-suc, take-length}
 use Rattle.words.specs.internal.Placed.{placed}
 use Rattle.text.proofs.put_bytes.Goals as goal
 
 pub loop-i-preserved : goal.loop-i-preserved
-loop-i-preserved c =     let l = c.loop-i in
+loop-i-preserved c = let l = c.loop-i in
     let a = c.args in (
       omega arith,
       simp length-set l.invariant.1,
@@ -20,7 +19,7 @@ loop-i-preserved c =     let l = c.loop-i in
 
 pub returns : goal.returns
 unfolding placed
-returns c =     let a = c.args in
+returns c = let a = c.args in
     let p = a.buffer.now in
     let s = a.s.now in
     let e : c.loop-i.i ≡ length s = omega arith in
