@@ -16,7 +16,7 @@ use borrow.Author.Tests.{ltb-true, ltb-false, lt-ltb, le-ltb}
 use borrow.Rule.Slice.PartMut.{put_mid}
 use Rattle.model.specs.Jobs.{Job}
 use Rattle.model.specs.Limits.{latest_time}
-use Rattle.model.specs.States.{Range, State, level}
+use Rattle.model.specs.States.{Range, State}
 use Rattle.model.specs.Exploration.{mergeable, merge, stored, going, limited, state_words}
 use Rattle.model.proofs.Bounds.{merge_bounded}
 use Rattle.words.proofs.Tabulate.{length_tabulate, get_or_tabulate, tabulate_ext, tabulate_is, tabulate_snoc}
