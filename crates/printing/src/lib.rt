@@ -5,48 +5,58 @@ ghost use Rattle.std.specs.Prelude.{◌+◌, ◌≤◌, ◌<◌, length};
 ghost use Rattle.printing.specs.internal.Files.{FileIn, ExampleIn};
 
 use checking::{Answer, Checked};
-use libc::STDOUT_FILENO;
+use std::io;
+use std::io::Read;
 
-pub fn print(text: &[u8]) {
-    io::write_all(STDOUT_FILENO, text);
+// The longest input that an example program reads: what follows is left.
+const MOST_INPUT: u64 = 65536;
+
+// The input of an example program.
+pub fn read_input<R: Input + Alloc>(rt: &R) -> io::Result<Vec<u8, R::A>> {
+    let mut input = Vec::new(rt.alloc());
+    rt.reader().take(MOST_INPUT).read_to_end(&mut input)?;
+    Ok(input)
 }
 
-pub fn print_number(x: u32) {
-    print(b" ");
-    io::print_decimal(STDOUT_FILENO, x as u64);
+pub fn print(rt: &impl Print, text: &[u8]) -> io::Result<()> {
+    rt.write_all(text)
 }
 
-pub fn print_size(x: usize) {
-    print(b" ");
-    io::print_decimal(STDOUT_FILENO, x as u64);
+pub fn print_number(rt: &impl Print, x: u32) -> io::Result<()> {
+    print!(rt; " {x}")
 }
 
-fn show_answer(answer: Answer) {
+pub fn print_size(rt: &impl Print, x: usize) -> io::Result<()> {
+    print!(rt; " {x}")
+}
+
+fn show_answer(rt: &impl Print, answer: Answer) -> io::Result<()> {
     match answer {
-        Answer::Accepted => print(b"accepted"),
+        Answer::Accepted => print(rt, b"accepted"),
         Answer::Refused(number, place) => {
-            print(b"refused");
-            print_number(number);
-            print(b" at");
-            print_size(place);
+            print(rt, b"refused")?;
+            print_number(rt, number)?;
+            print(rt, b" at")?;
+            print_size(rt, place)
         }
         Answer::Late(job, earliest, latest) => {
-            print(b"late");
-            print_size(job);
-            print(b" ends");
-            print_number(earliest);
-            print_number(latest);
+            print(rt, b"late")?;
+            print_size(rt, job)?;
+            print(rt, b" ends")?;
+            print_number(rt, earliest)?;
+            print_number(rt, latest)
         }
     }
 }
 
 // Each word after a space.
-pub fn print_numbers(words: &[u32]) {
+pub fn print_numbers(rt: &impl Print, words: &[u32]) -> io::Result<()> {
     let mut i = 0;
     while i < words.len() {
-        print_number(words[i]);
+        print_number(rt, words[i])?;
         i += 1;
     }
+    Ok(())
 }
 
 // Whether every word from a place on is this one.
@@ -62,45 +72,44 @@ pub fn all_are(words: &[u32], from: usize, value: u32) -> bool {
 }
 
 // Whether the words from a place on are zero.
-pub fn print_clear(words: &[u32], from: usize) {
+pub fn print_clear(rt: &impl Print, words: &[u32], from: usize) -> io::Result<()> {
     if all_are(words, from, 0) {
-        print(b"clear\n");
+        print(rt, b"clear\n")
     } else {
-        print(b"not clear\n");
+        print(rt, b"not clear\n")
     }
 }
 
 // Whether what a call must not change was found as it was before.
-pub fn print_rest(same: bool) {
+pub fn print_rest(rt: &impl Print, same: bool) -> io::Result<()> {
     if same {
-        print(b"rest unchanged\n");
+        print(rt, b"rest unchanged\n")
     } else {
-        print(b"rest changed\n");
+        print(rt, b"rest changed\n")
     }
 }
 
 // The first k words, and whether the others are zero.
-fn print_bounds(name: &[u8], words: &[u32], k: usize) {
+fn print_bounds(rt: &impl Print, name: &[u8], words: &[u32], k: usize) -> io::Result<()> {
     if words.len() < k {
-        return;
+        return Ok(());
     }
-    print(name);
-    print_numbers(&words[0..k]);
-    print(b", ");
-    print_clear(words, k);
+    print(rt, name)?;
+    print_numbers(rt, &words[0..k])?;
+    print(rt, b", ")?;
+    print_clear(rt, words, k)
 }
 
-pub fn show_result(checked: Checked) {
-    show_answer(checked.answer);
-    print(b", jobs");
-    print_size(checked.jobs);
-    print(b", states ");
-    io::print_decimal(STDOUT_FILENO, checked.states);
-    print(b"\n");
-    print_bounds(b"earliest", &checked.earliest, checked.jobs);
-    print_bounds(b"latest", &checked.latest, checked.jobs);
-    print_bounds(b"best", &checked.best, checked.jobs);
-    print_bounds(b"worst", &checked.worst, checked.jobs);
+pub fn show_result(rt: &impl Print, checked: Checked) -> io::Result<()> {
+    show_answer(rt, checked.answer)?;
+    print(rt, b", jobs")?;
+    print_size(rt, checked.jobs)?;
+    let states = checked.states;
+    println!(rt; ", states {states}")?;
+    print_bounds(rt, b"earliest", &checked.earliest, checked.jobs)?;
+    print_bounds(rt, b"latest", &checked.latest, checked.jobs)?;
+    print_bounds(rt, b"best", &checked.best, checked.jobs)?;
+    print_bounds(rt, b"worst", &checked.worst, checked.jobs)
 }
 
 fn wide(x: u8) -> usize

@@ -2,7 +2,6 @@
 use Rattle.std.specs.Prelude.{ℕ, ◌≤◌, ◌<◌, ◌≡◌, List, length}
 use Rattle.printing.specs.declared.Next.{Next}
 use Rattle.printing.specs.declared.Next.TheVariants.{File, Nothing}
-use Rattle.printing.specs.declared.Example.{Example}
 use Rattle.printing.specs.declared.NextExample.{NextExample}
 use Rattle.printing.specs.declared.NextExample.TheVariants.{Found}
 use Rattle.printing.specs.declared.NextExample.TheVariants.{Nothing as NoExample}
