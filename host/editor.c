@@ -12,7 +12,7 @@
  * Exit status: 0 OUT is written, whatever the check says of it, for a phrase may be late while it is worked on; 1 what IN holds is refused, or what it would
  * become, and OUT is untouched; 2 wrong usage, no bell N, a file cannot be read or written, memory is short, or the output cannot be written.
  *
- * Compile, from the repository's root, after `rt staticlib phrase`:
+ * Compile, from the repository's root, after `tools/build library`:
  *
  *     gcc -std=c99 -Wall -Wextra -Wpedantic -I host host/editor.c target/staticlib/libphrase.a -o editor
  */

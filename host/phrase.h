@@ -4,7 +4,7 @@
  * A phrase file comes in; a verdict, and a text with bounds for each stroke and totals for each bell, go out. For editors, a file is read into a struct
  * phrase, a struct phrase is written as a file, and one playing of a phrase is worked out. docs/FORMAT.md describes the file and its refusals.
  *
- *     rt staticlib phrase                                       proves the library and writes target/staticlib/libphrase.a, for x86-64 Linux only
+ *     tools/build library                                       proves the library and writes target/staticlib/libphrase.a, for x86-64 Linux only
  *     gcc -I host your.c target/staticlib/libphrase.a -o your   links it
  *
  * What holds of every call:

@@ -11,7 +11,7 @@
  * Exit status: 0 the phrase is accepted, and the playing is worked out if there is one; 1 either is refused; 2 wrong usage, a file cannot be read, memory is
  * short, or the output cannot be written.
  *
- * Compile, from the repository's root, after `rt staticlib phrase`:
+ * Compile, from the repository's root, after `tools/build library`:
  *
  *     gcc -std=c99 -Wall -Wextra -Wpedantic -I host host/player.c target/staticlib/libphrase.a -o player
  */

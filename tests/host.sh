@@ -3,13 +3,13 @@
 # tests/host/edits.c on phrases, tests/host/playings.c on playings, and tests/host/names.c, which provokes every name of the header, all six plainly, with
 # gcc's sanitizers and under valgrind, where these are there; tests/host/threads.c; tests/host/stack.c, which measures the stack; tests/host/growth.c; wrong
 # headers; the C of README.md; and the header from C++ where g++ is. PHRASE_LIB names another library than target/staticlib/libphrase.a, which
-# `rt staticlib phrase` writes; LDLIBS adds to what is linked. What is left out for want of a tool is said, and also appended to the file that LEFT_OUT names,
+# `tools/build` writes; LDLIBS adds to what is linked. What is left out for want of a tool is said, and also appended to the file that LEFT_OUT names,
 # a line each.
 set -euo pipefail
 cd "$(dirname "$0")/.."
 library=$(realpath -m "${PHRASE_LIB:-target/staticlib/libphrase.a}")
 if [ ! -f "$library" ]; then
-  echo "tests/host.sh: there is no library $library; \`rt staticlib phrase\` writes it" >&2
+  echo "tests/host.sh: there is no library $library; \`tools/build library\` writes it" >&2
   exit 2
 fi
 folder=$(mktemp -d)

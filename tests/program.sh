@@ -1,12 +1,12 @@
 #!/usr/bin/env bash
 # Runs the program phrasecheck on every example of document 01 that it can show, on those of version 2 (request 104) and version 3 (request 106), on examples/
 # and at the limits of its table and its input, and compares what it prints byte by byte, with the bells' lines (request 108). PHRASECHECK names another program
-# than target/bin/phrasecheck, which `rt check phrasecheck` builds.
+# than target/bin/phrasecheck, which `tools/build` builds.
 set -euo pipefail
 cd "$(dirname "$0")/.."
 program=${PHRASECHECK:-target/bin/phrasecheck}
 if [ ! -x "$program" ]; then
-  echo "tests/program.sh: there is no program $program; \`rt check phrasecheck\` builds it" >&2
+  echo "tests/program.sh: there is no program $program; \`tools/build program\` builds it" >&2
   exit 2
 fi
 folder=$(mktemp -d)

@@ -62,7 +62,7 @@ fn run(input: &[u8]) -> String {
         .stdin(Stdio::piped())
         .stdout(Stdio::piped())
         .spawn()
-        .unwrap_or_else(|e| panic!("{}: {e}; `rt check` builds it", program()));
+        .unwrap_or_else(|e| panic!("{}: {e}; `tools/build program` builds it", program()));
     let mut stdin = child.stdin.take().expect("piped");
     let bytes = input.to_vec();
     let writer = std::thread::spawn(move || stdin.write_all(&bytes));
