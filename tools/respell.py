@@ -12,7 +12,7 @@ import re
 import sys
 
 NAME = r"[^\s(){}.;,@\"«»\\]+"
-DECLARED = re.compile(rf"(?m)^ *(?:(?:pub|abbrev|unfoldable|opaque|private|field) +)*([a-z]{NAME})(?: \{{[^{{}}\n]*\}})* :(?= )")
+DECLARED = re.compile(rf"(?m)^ *(?:(?:pub|abbrev|unfoldable|opaque|private|field) +)*([a-z]{NAME})(?: \{{[^{{}}\n]*\}})* :(?=[ \n])")
 USE = re.compile(r"(?m)^\s*(?:ghost )?(?:pub )?use ([^\s;{]+?)\.?(?:\{([^}]*)\})?(?: as \S+?)?;?\s*$")
 WORD = re.compile(r"(?<![^\s(){}.;,@\"«»\\⌜⌝≡&|!`'])" + r"([a-z][\w'-]*)" + r"(?![\w'-])")
 STRING = re.compile(r'"(?:[^"\\\n]|\\.)*"')
@@ -64,7 +64,8 @@ def main():
     read = {path: open(path, encoding="utf-8").read() for path in texts(top)}
     declared = set()
     for path, text in read.items():
-        if path.endswith(".antt"):
+        # The names of answers and invariants are those of goals, which the check gives.
+        if path.endswith(".antt") and not path.endswith(("/Answers.antt", "/Invariants.antt")):
             declared |= set(DECLARED.findall(text))
     table = named(declared)
     for path, text in read.items():

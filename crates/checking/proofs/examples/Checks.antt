@@ -194,11 +194,11 @@ unfolding reading analysis per_job
 as_resulting = refl
 
 -- the bounds that it reports: a range for each stroke, none where it has none
-pub bounds-reported :
+pub bounds_reported :
     map bounds_of (dues results)
     ≡ (range 2 7 ∷ range 4 6 ∷ []) ∷ (range 6 7 ∷ range 4 4 ∷ []) ∷ [] ∷ [] ∷ [] ∷ [] ∷ [] ∷ []
 unfolding bounds_of
-bounds-reported = refl
+bounds_reported = refl
 
 -- ---- what document 01 writes of an answer: number, place, and of a late stroke its ends
 
@@ -209,6 +209,6 @@ pub answers :
     map answer_for (accepted (range 2 7 ∷ []) 4 ∷ refused 4 5 ∷ refused 13 1 ∷ late 3 6 7 ∷ []) ≡ Accepted ∷ Refused 4 5 ∷ Refused 13 1 ∷ Late 3 6 7 ∷ []
 answers = refl
 
-pub answers-written :
+pub answers_written :
     map values_of (Accepted ∷ Refused 4 5 ∷ Refused 13 1 ∷ Late 3 6 7 ∷ []) ≡ values 0 0 0 0 ∷ values 4 5 0 0 ∷ values 13 1 0 0 ∷ values 14 3 6 7 ∷ []
-answers-written = refl
+answers_written = refl

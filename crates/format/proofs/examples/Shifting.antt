@@ -9,10 +9,10 @@ use Rattle.format.proofs.examples.Shifts.{shifted, phrase_s}
 use Rattle.format.proofs.examples.Rests.{phrase_r}
 
 -- S, written as 64 and 78 with a shift of -4, is heard as P; a shift up, with a number listed; and a key that falls below zero
-pub heardTable :
+pub heard_table :
     map heard (phrase_s ∷ phrase_p ∷ shifted 2 4 (note 56 1 2 9 [] ∷ note 70 3 4 5 (0 ∷ []) ∷ []) ∷ shifted 2 252 (note 3 0 5 7 [] ∷ []) ∷ [])
     ≡ (note0 ∷ note1 ∷ []) ∷ (note0 ∷ note1 ∷ []) ∷ (note 60 1 2 9 [] ∷ note 74 3 4 5 (0 ∷ []) ∷ []) ∷ (note 0 0 5 7 [] ∷ []) ∷ []
-heardTable = refl
+heard_table = refl
 
 -- of 0, 1, 4 and 24, and of -4, -24 and -1
 pub opposites : map opposite (0 ∷ 1 ∷ 4 ∷ 24 ∷ 252 ∷ 232 ∷ 255 ∷ []) ≡ 0 ∷ 255 ∷ 252 ∷ 232 ∷ 4 ∷ 24 ∷ 1 ∷ []

@@ -14,11 +14,11 @@ abbrev sounding_for : ℕ → ℕ → ℕ
 sounding_for n t = sounding (bell n t 1 1 0)
 
 -- 62 with 12, 127, -12 and -1; 12 with -12, and with -13, which is below zero
-pub sounding-keys :
+pub sounding_keys :
     sounding_for 62 12 ∷ sounding_for 62 127 ∷ sounding_for 62 244 ∷ sounding_for 62 255 ∷ sounding_for 12 244 ∷ sounding_for 12 243 ∷ []
     ≡ 74 ∷ 189 ∷ 50 ∷ 61 ∷ 0 ∷ 0 ∷ []
 unfolding sounding
-sounding-keys = refl
+sounding_keys = refl
 
 -- four notes, of which 0, 2 and 3 strike bell 0
 pub q_valid : Valid phrase_q

@@ -205,7 +205,7 @@ abbrev single : List Range → ℕ → ℕ → Exploration
 single finishes t c = going (on_one_core finishes t ∷ []) finishes c
 
 -- each level has one state, up to the last, which tells when each job ends; a level after it would hold none
-pub level-by-level :
+pub level_by_level :
     map (level_of first_come_first) (0 ∷ 1 ∷ 2 ∷ 3 ∷ [])
     ≡ single (empty ∷ empty ∷ []) 0 1
     ∷ single (range 4 4 ∷ empty ∷ []) 4 2
@@ -213,14 +213,14 @@ pub level-by-level :
     ∷ going [] (range 4 4 ∷ range 6 6 ∷ []) 3
     ∷ []
 unfolding explored
-level-by-level = refl
+level_by_level = refl
 
 -- levels 0 and 1 are completed; in level 2 the edge of job 1 is late, and there it ends
-pub until-late :
+pub until_late :
     map (level_of later_late) (0 ∷ 1 ∷ 2 ∷ 3 ∷ [])
     ≡ single (empty ∷ empty ∷ empty ∷ []) 0 1 ∷ single (range 2 2 ∷ empty ∷ empty ∷ []) 2 2 ∷ miss 1 4 4 ∷ miss 1 4 4 ∷ []
 unfolding explored
-until-late = refl
+until_late = refl
 
 -- with room for none, level 0 is full
 pub no_room : map (λ (c : Case). analysis c.jobs c.cores 0) (nothing ∷ in_time ∷ late_by_one ∷ []) ≡ refused 13 0 ∷ refused 13 0 ∷ refused 13 0 ∷ []

@@ -175,10 +175,10 @@ pub kept_timely : (s : Scenario) (k : Kept (phrase_p 7) 1 (range 0 9 ∷ range 0
 kept_timely s k = omega (arith, k.timely 0 (omega arith), k.timely 1 (omega arith))
 
 -- the largest of the latest finish times; 0 where there is none
-pub largest-latest :
+pub largest_latest :
     map (largest all latest) ((range 2 7 ∷ range 4 6 ∷ []) ∷ (range 4 6 ∷ range 2 7 ∷ []) ∷ [] ∷ (empty ∷ []) ∷ []) ≡ 7 ∷ 7 ∷ 0 ∷ 0 ∷ []
 unfolding largest
-largest-latest = refl
+largest_latest = refl
 
 -- from 7 on, the largest latest finish time, every job is done
 pub kept_quiet : (s : Scenario) (k : Kept (phrase_p 7) 1 within s) (t : ℕ) → 7 ≤ t

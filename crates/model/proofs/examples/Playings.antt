@@ -77,11 +77,11 @@ abbrev first_among : ℕ → List ℕ → ℕ
 first_among n l = first_time (λ t. member t l) n
 
 -- up to 0; up to 4: of two, in either order, at 0, at 4 itself, none so early, and none at all
-pub first-times :
+pub first_times :
     first_among 0 (3 ∷ []) ∷ map (first_among 4) ((2 ∷ 3 ∷ []) ∷ (3 ∷ 2 ∷ []) ∷ (0 ∷ 3 ∷ []) ∷ (4 ∷ []) ∷ (7 ∷ []) ∷ [] ∷ [])
     ≡ 0 ∷ 2 ∷ 2 ∷ 0 ∷ 4 ∷ 4 ∷ 4 ∷ []
 unfolding first_time member
-first-times = refl
+first_times = refl
 
 pub until : map runs_until (waiting ∷ running 4 ∷ done 4 ∷ []) ≡ 0 ∷ 4 ∷ 0 ∷ []
 until = refl

@@ -36,10 +36,10 @@ unfolding rest_of
 rests = refl
 
 -- done since 5, with a rest of 2, at 4 to 8; with none, at 4 and 5; and neither what waits nor what runs has rested
-pub rested-from :
+pub rested_from :
     map (λ t. has_rested t 2 (done 5)) (4 ∷ 5 ∷ 6 ∷ 7 ∷ 8 ∷ [])
     ≡ false ∷ false ∷ false ∷ true ∷ true ∷ []
-rested-from = refl
+rested_from = refl
 
 pub without_rest : map (λ t. has_rested t 0 (done 5)) (4 ∷ 5 ∷ []) ≡ false ∷ true ∷ []
 without_rest = refl
@@ -69,7 +69,7 @@ besides =
     ∷ record { i = 2; j = 3; w = 0 }
     ∷ []
 
-pub besides-rested :
+pub besides_rested :
     map (λ (b : Beside). rested_with five_jobs b.i b.j b.w) besides ≡ true ∷ false ∷ true ∷ true ∷ false ∷ false ∷ []
 unfolding rested_with
-besides-rested = refl
+besides_rested = refl

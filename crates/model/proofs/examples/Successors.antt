@@ -26,13 +26,13 @@ example1 = refl
 abbrev pub resting_pair : List Job
 resting_pair = resting 3 9 [] 0 0 2 4 1 7 ∷ resting 3 9 [] 0 0 1 1 1 7 ∷ []
 
-pub first-of-pair :
+pub first_of_pair :
     successor resting_pair (initial 2 2) 0 ≡ record { finish = range 2 4 ∷ empty ∷ []; possibly_free = 0 ∷ 2 ∷ []; certainly_free = 0 ∷ 4 ∷ [] }
 unfolding successor
-first-of-pair = refl
+first_of_pair = refl
 
-pub second-of-pair :
+pub second_of_pair :
     successor resting_pair (successor resting_pair (initial 2 2) 0) 1
     ≡ record { finish = range 2 4 ∷ range 6 8 ∷ []; possibly_free = 5 ∷ 6 ∷ []; certainly_free = 5 ∷ 8 ∷ [] }
 unfolding successor
-second-of-pair = refl
+second_of_pair = refl

@@ -97,10 +97,10 @@ lengths_in_them = refl
 abbrev reported : Checked → ℕ → Reported
 reported r n = record { checked = r; length = n }
 
-pub results-of-them :
+pub results_of_them :
     map (reported_in (alone (Late 3 6 7)) three) buffers
     ≡ reported (alone (Late 3 6 7)) 3 ∷ reported (alone (Late 3 6 7)) 3 ∷ reported (alone (Refused 15 0)) 0 ∷ reported (alone (Refused 15 0)) 0 ∷ []
-results-of-them = refl
+results_of_them = refl
 
 -- ---- reports
 
@@ -148,7 +148,7 @@ pub as_valued : map (λ (x : Report). values_of (answer_in (reading x.file) x.wo
 unfolding reading analysis stroke_line bell_line lines accepted_line refused_line late_line sum decimal_within
 as_valued = refl
 
-pub as-left :
+pub as_left :
     map (λ (x : Report). delivered (text_of (reading x.file) x.words) (replicate x.room 7)) reports ≡ map (λ (x : Report). x.left) reports
 unfolding reading analysis stroke_line bell_line lines accepted_line refused_line late_line sum decimal_within
-as-left = refl
+as_left = refl

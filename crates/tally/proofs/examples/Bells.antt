@@ -58,8 +58,8 @@ unfolding sum bell_line lines decimal_within
 as_due = refl
 
 -- the last line follows, with the total
-pub with-last :
+pub with_last :
     totals_text falling 7 8
     ≡ bytes "bell 2 strokes 2 hold 18\nbell 4 strokes 1 hold 7\nbell 5 strokes 3 hold 66\naccepted strokes 6 states 8 hold 91\n"
 unfolding sum bell_line lines accepted_line decimal_within
-with-last = refl
+with_last = refl
