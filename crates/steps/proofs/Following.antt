@@ -3,18 +3,15 @@ use Prim.Native.Nat.{ℕ, zero, suc, ◌+◌, ◌≤◌, ◌<◌}
 use mathlib.Core.Path.{◌≡◌, refl, sym, ap, ◌∙◌, subst}
 use mathlib.Core.Bool.{Bool, true, false, cond, ◌&&◌}
 use mathlib.Core.List.{List, [], ◌∷◌, foldl, foldl-append}
-use mathlib.Core.Logic.{◌⊎◌, ⊎_elim}
 use native.Mathlib.Omega.{arith}
-use denote.Enum.Declared.{tag_of}
 use lib.Dec.{leb}
 use lib.ListN.{get_or, length, take, drop, take-append-drop}
 use lib.Seq.{take_all}
-use borrow.Author.Tests.{lt-ltb, le-ltb}
 use Rattle.model.specs.Jobs.{Job, job}
 use Rattle.model.specs.Folds.{ind}
 use Rattle.model.specs.States.{Range, empty, range, is_range, State, started, level}
-use Rattle.model.specs.Edges.{candidate, is_below, earliest_start, work_conserving_bound, higher_priority_bound, eligible, latest_finish, successor}
-use Rattle.model.specs.Exploration.{Exploration, going, full, miss, limited, stored, observed, add_edge, try_job, try_jobs}
+use Rattle.model.specs.Edges.{candidate, is_below, earliest_start, earliest_finish, work_conserving_bound, higher_priority_bound, eligible, latest_finish, successor}
+use Rattle.model.specs.Exploration.{Exploration, going, full, miss, add_edge, try_job, try_jobs}
 use Rattle.model.proofs.Booleans.{and_left}
 use Rattle.model.proofs.Folds.{count_set}
 use Rattle.model.proofs.Starts.{candidate_out}
@@ -25,7 +22,7 @@ use Rattle.jobs.proofs.Jobs.{length_jobs, field_of}
 use Rattle.states.specs.declared.starting.JobStart.{JobStart}
 use Rattle.words.proofs.Tabulate.{length_tabulate}
 use Rattle.states.specs.internal.Slots.{range_at, state_of, states_of}
-use Rattle.states.specs.internal.Writing.{after_start}
+use Rattle.states.specs.internal.Writing.{with_start, after_start}
 use Rattle.edges.specs.declared.Edge.{Edge}
 use Rattle.edges.specs.declared.Edge.TheVariants.{NotEligible, Starts}
 use Rattle.edges.specs.internal.Edges.{start_of, edge_of, candidates}
@@ -35,7 +32,6 @@ use Rattle.steps.specs.internal.Progress.{going_in, progress_of, HalfAt, Leaves,
 use Rattle.steps.specs.declared.shape.Shape.{Shape}
 use Rattle.steps.specs.declared.progress.Progress.{Progress}
 use Rattle.steps.specs.declared.progress.Progress.TheVariants.{Going, Full, Late}
-use Rattle.steps.specs.contracts.progress.Progress.{the_type}
 
 -- ---- an edge that was found
 
@@ -92,21 +88,17 @@ module _ (js : List Job) (σ : State) (x : JobStart) (follows : Follows js σ x)
 
   successor_is : successor js σ x.job ≡ after_start σ x
   unfolding successor
-  successor_is = rw (follows.start, follows.earliest, follows.latest)
+  successor_is =
+      let s = earliest_start js σ x.job in
+      let e = earliest_finish js σ x.job in
+      subst (λ (z : ℕ). successor js σ x.job ≡ with_start σ x.job z x.earliest x.latest) (sym follows.start)
+      (subst (λ (z : ℕ). successor js σ x.job ≡ with_start σ x.job s z x.latest) (sym follows.earliest)
+      (subst (λ (z : ℕ). successor js σ x.job ≡ with_start σ x.job s e z) (sym follows.latest) refl))
 
   -- the times of the new state are bounded, where the job is in time
   pub new_bounded : (d : ℕ) → TimedUpTo d js → Bounded js d σ → x.job < length js → x.latest ≤ (job js x.job).deadline → Bounded js d (after_start σ x)
   new_bounded d timed g b h =
       subst (Bounded js d) successor_is (successor_bounded js d timed σ x.job (record { inside = b; starts = follows.starts; timely = omega (arith, follows.latest) }) g)
-
-module _ (js : List Job) (cap : ℕ) (σ : State) (x : JobStart) (l : List State) (seen : List Range) (c : ℕ) where
-  -- a job that may finish after its deadline ends the exploration
-  pub edge_late : (job js x.job).deadline < x.latest → miss x.job x.earliest x.latest ≡ followed js cap σ (Starts x) l seen c
-  edge_late h = rw (lt-ltb (job js x.job).deadline x.latest h)
-
-  -- else the new state is stored
-  pub edge_kept : x.latest ≤ (job js x.job).deadline → limited cap (after_start σ x) (stored (after_start σ x) l) seen c ≡ followed js cap σ (Starts x) l seen c
-  edge_kept h = rw (le-ltb (job js x.job).deadline x.latest h)
 
 -- one job more has started
 pub one_more_started : (m k : ℕ) (ws : List ℕ) (x : JobStart) → x.job < k → started (state_of m k ws) x.job ≡ false
@@ -178,8 +170,8 @@ module _ (js : List Job) (cap : ℕ) (σ : State) where
 -- ---- the same, by what the words say
 
 -- a step that does not go on has stopped
-pub ended : (r : Progress) → (tag_of the_type r ≡ 1) ⊎ (tag_of the_type r ≡ 2) → (m k : ℕ) (seen : List Range) (c : ℕ) (half : List ℕ) → Stopped (progress_of m k seen c r half)
-ended (Going n) h m k seen c half = ⊎_elim (λ (e : tag_of the_type (Going n) ≡ 1). absurd (omega (arith, e))) (λ (e : tag_of the_type (Going n) ≡ 2). absurd (omega (arith, e))) h
+pub ended : (r : Progress) → ((n : ℕ) → r ≡ Going n → ⊥) → (m k : ℕ) (seen : List Range) (c : ℕ) (half : List ℕ) → Stopped (progress_of m k seen c r half)
+ended (Going n) h m k seen c half = absurd (h n refl)
 ended (Full l) h m k seen c half = tt
 ended (Late i e f) h m k seen c half = tt
 
@@ -229,7 +221,7 @@ module _ (js : List Job) (shape : Shape) (σ : State) (list : List ℕ) (from : 
         }
 
     -- once stopped, the jobs that are left change nothing
-    pub tried_enough : (t : ℕ) {r : Progress} {half seen heads : List ℕ} → (tag_of the_type r ≡ 1) ⊎ (tag_of the_type r ≡ 2) → Tried t r half seen heads → AllTried r half seen heads
+    pub tried_enough : (t : ℕ) {r : Progress} {half seen heads : List ℕ} → ((n : ℕ) → r ≡ Going n → ⊥) → Tried t r half seen heads → AllTried r half seen heads
     tried_enough t {r = r} {half = half} {seen = seen} h leaves =
         record {
           same = λ c. stopped js shape.capacity σ shape.jobs list listed (from c) _ t (ended r h shape.cores shape.jobs (observed_of shape.jobs seen) c half) (leaves.same c);
