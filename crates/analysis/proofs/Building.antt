@@ -1,13 +1,11 @@
 -- One level built from the states of another: what holds before each state, and what each leaves. Assumes nothing.
 use Prim.Native.Nat.{ℕ, zero, suc, ◌+◌, ◌*◌, ◌-◌, ◌≤◌, ◌<◌}
 use mathlib.Core.Path.{◌≡◌, refl, sym, ap, ◌∙◌, subst}
-use mathlib.Core.Logic.{◌⊎◌}
 use mathlib.Core.List.{List, [], ◌∷◌}
 use native.Mathlib.Nat.{sub-zero}
 use native.Mathlib.Numerals.{add-one}
 use native.Mathlib.Omega.{arith}
 use lib.ListN.{length}
-use denote.Enum.Declared.{tag_of}
 use borrow.Rule.Slice.PartMut.{put_mid, put_same}
 use Rattle.model.specs.Limits.{latest_time}
 use Rattle.model.specs.Jobs.{Job}
@@ -30,7 +28,6 @@ use Rattle.analysis.specs.internal.Answers.{Halves, AllLinkable}
 use Rattle.steps.specs.declared.shape.Shape.{Shape}
 use Rattle.steps.specs.declared.progress.Progress.{Progress}
 use Rattle.steps.specs.declared.progress.Progress.TheVariants.{Going}
-use Rattle.steps.specs.contracts.progress.Progress.{the_type}
 use Rattle.steps.proofs.Following.{Stopped, jobs_stopped, ended}
 use Rattle.analysis.proofs.Halves.{put_put, source_kept}
 
@@ -261,7 +258,7 @@ module _ {rows : List ℕ} {k m cap : ℕ} {index : Index} {from to n : ℕ} {ta
             sym (states_stopped js cap rest x h) ∙ ap (try_states js cap rest) (sym e) ∙ after c
 
         -- a step that does not go on ends the level
-        pub building_stops : (tag_of the_type r ≡ 1) ⊎ (tag_of the_type r ≡ 2) → Built r table' seen' heads'
+        pub building_stops : ((i : ℕ) → r ≡ Going i → ⊥) → Built r table' seen' heads'
         building_stops h = (
           record {
             same = λ c.
