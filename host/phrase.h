@@ -17,7 +17,7 @@
  * - There is no state between calls and none is shared, so calls may run at the same time, on different tables, texts, phrases, starts, ends and files to
  *   be written.
  * - A stack of 128 KiB suffices. Measured by tests/host/stack.c, as the part of a painted stack that the call changed, and no more for any phrase that was
- *   tried: phrase_check takes 87 KiB, phrase_report 89, with a lent table 23 and 25, phrase_play 10, phrase_read and phrase_write less than 1. A program that
+ *   tried: phrase_check takes 89 KiB, phrase_report 90, with a lent table 25 and 26, phrase_play 10, phrase_read and phrase_write less than 1. A program that
  *   binds memcpy and memset only when they are first called (-Wl,-z,lazy) needs up to 4 KiB more in that call.
  */
 #ifndef PHRASE_H

@@ -84,10 +84,10 @@ static const struct call {
     unsigned stated;
     int binds;
 } calls[] = {
-    {"phrase_check", check, 87, 1},
-    {"phrase_report", report, 89, 1},
-    {"phrase_check_with", check_with, 23, 1},
-    {"phrase_report_with", report_with, 25, 1},
+    {"phrase_check", check, 89, 1},
+    {"phrase_report", report, 90, 1},
+    {"phrase_check_with", check_with, 25, 1},
+    {"phrase_report_with", report_with, 26, 1},
     {"phrase_read", read_phrase, 1, 1},
     {"phrase_write", write_phrase, 1, 0},
     {"phrase_play", play_playing, 10, 1},
