@@ -4,44 +4,49 @@
 #![tactic(auto)]
 
 use checker::check;
-use libc::STDIN_FILENO;
 use phrase::TABLE_WORDS;
-use printing::{NextExample, all_are, next_example, print_rest, show_result};
+use printing::{NextExample, all_are, next_example, print_rest, read_input, show_result};
+use std::io;
 
 // What every word of the table holds before a check: no time, and no count of states.
 const BEFORE: u32 = 2779096485;
 
 // Checks the file over the first words of the table.
-fn show_over(file: &[u8], table: &mut [u32], words: usize, used: usize) {
+fn show_over(
+    rt: &impl Print,
+    file: &[u8],
+    table: &mut [u32],
+    words: usize,
+    used: usize,
+) -> io::Result<()> {
     if table.len() < words {
-        return;
+        return Ok(());
     }
     let checked = check(file, &mut table[0..words]);
-    show_result(checked);
-    print_rest(all_are(table, used, BEFORE));
+    show_result(rt, checked)?;
+    print_rest(rt, all_are(table, used, BEFORE))
 }
 
-fn show(file: &[u8], words: usize, used: usize) {
+fn show(rt: &impl Print, file: &[u8], words: usize, used: usize) -> io::Result<()> {
     let mut table = [BEFORE; TABLE_WORDS];
-    show_over(file, &mut table, words, used);
+    show_over(rt, file, &mut table, words, used)
 }
 
-fn show_all(input: &[u8]) {
+fn show_all(rt: &impl Print, input: &[u8]) -> io::Result<()> {
     let mut at = 0;
     loop {
         let next = next_example(input, at);
         let NextExample::Found(example) = next else {
-            return;
+            return Ok(());
         };
         let start = example.start;
         let end = example.end;
-        show(&input[start..end], example.first, example.second);
+        show(rt, &input[start..end], example.first, example.second)?;
         at = end;
     }
 }
 
-fn main() {
-    let mut input = io::large_buffer();
-    let n = io::read_full(STDIN_FILENO, &mut input);
-    show_all(&input[..n]);
+fn main(rt: HostRuntime) -> io::Result<()> {
+    let input = read_input(&rt)?;
+    show_all(&rt, &input)
 }

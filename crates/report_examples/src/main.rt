@@ -5,66 +5,70 @@
 #![tactic(auto)]
 
 use check::same;
-use libc::{STDIN_FILENO, STDOUT_FILENO};
 use phrase::TABLE_WORDS;
-use printing::{NextExample, next_example, print, print_rest, show_result};
+use printing::{NextExample, next_example, print, print_rest, read_input, show_result};
 use report::report;
+use std::io;
 
 const TEXT_BYTES: usize = 8192;
 // What every byte of the buffer holds before a report: in no text.
 const BEFORE: u8 = 165;
 
 // The text up to its end, and whether what follows is as it was before.
-fn show_text(text: &[u8], before: &[u8], end: usize) {
+fn show_text(rt: &impl Print, text: &[u8], before: &[u8], end: usize) -> io::Result<()> {
     if text.len() < end {
-        return;
+        return Ok(());
     }
     if before.len() < end {
-        return;
+        return Ok(());
     }
-    print(&text[0..end]);
-    print(b"length ");
-    io::print_decimal(STDOUT_FILENO, end as u64);
-    print(b", ");
-    print_rest(same(&text[end..], &before[end..]));
+    print(rt, &text[0..end])?;
+    print!(rt; "length {end}, ")?;
+    print_rest(rt, same(&text[end..], &before[end..]))
 }
 
 // Reports over the first words of the table and the first bytes of the text.
-fn show_over(file: &[u8], table: &mut [u32], words: usize, text: &mut [u8], bytes: usize) {
+fn show_over(
+    rt: &impl Print,
+    file: &[u8],
+    table: &mut [u32],
+    words: usize,
+    text: &mut [u8],
+    bytes: usize,
+) -> io::Result<()> {
     if table.len() < words {
-        return;
+        return Ok(());
     }
     if text.len() < bytes {
-        return;
+        return Ok(());
     }
     let before = [BEFORE; TEXT_BYTES];
     let reported = report(file, &mut table[0..words], &mut text[0..bytes]);
-    show_text(text, &before, reported.length);
-    show_result(reported.checked);
+    show_text(rt, text, &before, reported.length)?;
+    show_result(rt, reported.checked)
 }
 
-fn show(file: &[u8], words: usize, bytes: usize) {
+fn show(rt: &impl Print, file: &[u8], words: usize, bytes: usize) -> io::Result<()> {
     let mut table = [0u32; TABLE_WORDS];
     let mut text = [BEFORE; TEXT_BYTES];
-    show_over(file, &mut table, words, &mut text, bytes);
+    show_over(rt, file, &mut table, words, &mut text, bytes)
 }
 
-fn show_all(input: &[u8]) {
+fn show_all(rt: &impl Print, input: &[u8]) -> io::Result<()> {
     let mut at = 0;
     loop {
         let next = next_example(input, at);
         let NextExample::Found(example) = next else {
-            return;
+            return Ok(());
         };
         let start = example.start;
         let end = example.end;
-        show(&input[start..end], example.first, example.second);
+        show(rt, &input[start..end], example.first, example.second)?;
         at = end;
     }
 }
 
-fn main() {
-    let mut input = io::large_buffer();
-    let n = io::read_full(STDIN_FILENO, &mut input);
-    show_all(&input[..n]);
+fn main(rt: HostRuntime) -> io::Result<()> {
+    let input = read_input(&rt)?;
+    show_all(&rt, &input)
 }
