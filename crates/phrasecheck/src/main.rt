@@ -1,10 +1,10 @@
 // Checks the phrase file on standard input and prints the report.
 #![tactic(auto)]
 
+use input::read_full;
 use phrase::TABLE_WORDS;
 use report::report;
 use std::io;
-use std::io::Read;
 
 // The longest input that is read.
 const MOST_INPUT: usize = 4096;
@@ -20,12 +20,10 @@ fn print_report(rt: &impl Print, file: &[u8]) -> io::Result<()> {
 }
 
 fn main(rt: HostRuntime) -> io::Result<()> {
-    let mut input = Vec::new(rt.alloc());
-    rt.reader()
-        .take(MOST_INPUT as u64 + 1)
-        .read_to_end(&mut input)?;
-    if MOST_INPUT < input.len() {
+    let mut input = [0u8; MOST_INPUT + 1];
+    let n = read_full(&rt, &mut input)?;
+    if MOST_INPUT < n {
         return rt.write_all(b"input too long\n");
     }
-    print_report(&rt, &input)
+    print_report(&rt, &input[..n])
 }

@@ -6,17 +6,9 @@ ghost use Rattle.printing.specs.internal.Files.{FileIn, ExampleIn};
 
 use checking::{Answer, Checked};
 use std::io;
-use std::io::Read;
 
 // The longest input that an example program reads: what follows is left.
-const MOST_INPUT: u64 = 65536;
-
-// The input of an example program.
-pub fn read_input<R: Input + Alloc>(rt: &R) -> io::Result<Vec<u8, R::A>> {
-    let mut input = Vec::new(rt.alloc());
-    rt.reader().take(MOST_INPUT).read_to_end(&mut input)?;
-    Ok(input)
-}
+pub const MOST_INPUT: usize = 65536;
 
 pub fn print(rt: &impl Print, text: &[u8]) -> io::Result<()> {
     rt.write_all(text)

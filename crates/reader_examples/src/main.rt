@@ -4,10 +4,11 @@
 
 ghost use Rattle.rows.specs.internal.Handed.{HandedOn};
 
+use input::read_full;
 use jobs::row::{BELL, JOB_TABLE, LISTED_COUNT, REST, ROW_WORDS};
 use jobset::write_jobs;
 use printing::{
-    Next, next_file, print, print_clear, print_number, print_numbers, print_size, read_input,
+    MOST_INPUT, Next, next_file, print, print_clear, print_number, print_numbers, print_size,
 };
 use reader::read;
 use records::answers::Reading;
@@ -166,6 +167,7 @@ fn show_all(rt: &impl Print, input: &[u8]) -> io::Result<()> {
 }
 
 fn main(rt: HostRuntime) -> io::Result<()> {
-    let input = read_input(&rt)?;
-    show_all(&rt, &input)
+    let mut input = [0u8; MOST_INPUT];
+    let n = read_full(&rt, &mut input)?;
+    show_all(&rt, &input[..n])
 }

@@ -5,8 +5,9 @@
 #![tactic(auto)]
 
 use check::same;
+use input::read_full;
 use phrase::TABLE_WORDS;
-use printing::{NextExample, next_example, print, print_rest, read_input, show_result};
+use printing::{MOST_INPUT, NextExample, next_example, print, print_rest, show_result};
 use report::report;
 use std::io;
 
@@ -69,6 +70,7 @@ fn show_all(rt: &impl Print, input: &[u8]) -> io::Result<()> {
 }
 
 fn main(rt: HostRuntime) -> io::Result<()> {
-    let input = read_input(&rt)?;
-    show_all(&rt, &input)
+    let mut input = [0u8; MOST_INPUT];
+    let n = read_full(&rt, &mut input)?;
+    show_all(&rt, &input[..n])
 }
