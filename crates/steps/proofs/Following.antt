@@ -7,11 +7,12 @@ use native.Mathlib.Omega.{arith}
 use lib.Dec.{leb}
 use lib.ListN.{get_or, length, take, drop, take-append-drop}
 use lib.Seq.{take_all}
+use borrow.Author.Tests.{lt-ltb, le-ltb}
 use Rattle.model.specs.Jobs.{Job, job}
 use Rattle.model.specs.Folds.{ind}
 use Rattle.model.specs.States.{Range, empty, range, is_range, State, started, level}
 use Rattle.model.specs.Edges.{candidate, is_below, earliest_start, earliest_finish, work_conserving_bound, higher_priority_bound, eligible, latest_finish, successor}
-use Rattle.model.specs.Exploration.{Exploration, going, full, miss, add_edge, try_job, try_jobs}
+use Rattle.model.specs.Exploration.{Exploration, going, full, miss, limited, stored, add_edge, try_job, try_jobs}
 use Rattle.model.proofs.Booleans.{and_left}
 use Rattle.model.proofs.Folds.{count_set}
 use Rattle.model.proofs.Starts.{candidate_out}
@@ -99,6 +100,15 @@ module _ (js : List Job) (σ : State) (x : JobStart) (follows : Follows js σ x)
   pub new_bounded : (d : ℕ) → TimedUpTo d js → Bounded js d σ → x.job < length js → x.latest ≤ (job js x.job).deadline → Bounded js d (after_start σ x)
   new_bounded d timed g b h =
       subst (Bounded js d) successor_is (successor_bounded js d timed σ x.job (record { inside = b; starts = follows.starts; timely = omega (arith, follows.latest) }) g)
+
+module _ (js : List Job) (cap : ℕ) (σ : State) (x : JobStart) (l : List State) (seen : List Range) (c : ℕ) where
+  -- a job that may finish after its deadline ends the exploration
+  pub edge_late : (job js x.job).deadline < x.latest → miss x.job x.earliest x.latest ≡ followed js cap σ (Starts x) l seen c
+  edge_late h = rw (lt-ltb (job js x.job).deadline x.latest h)
+
+  -- else the new state is stored
+  pub edge_kept : x.latest ≤ (job js x.job).deadline → limited cap (after_start σ x) (stored (after_start σ x) l) seen c ≡ followed js cap σ (Starts x) l seen c
+  edge_kept h = rw (le-ltb (job js x.job).deadline x.latest h)
 
 -- one job more has started
 pub one_more_started : (m k : ℕ) (ws : List ℕ) (x : JobStart) → x.job < k → started (state_of m k ws) x.job ≡ false

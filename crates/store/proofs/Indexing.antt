@@ -1,20 +1,24 @@
 -- What the index of a level is for, and the range of buckets. Assumes nothing.
-use Prim.Native.Nat.{ℕ, suc, ◌*◌, ◌/◌, ◌^◌, ◌≤◌, ◌<◌}
+use Prim.Native.Nat.{ℕ, suc, ◌+◌, ◌*◌, ◌/◌, ◌^◌, ◌≤◌, ◌<◌}
 use mathlib.Core.Path.{◌≡◌, refl, sym, ap, ◌∙◌, subst}
 use mathlib.Core.Logic.{⊎_elim}
-use mathlib.Core.Bool.{Bool, true, false}
+use mathlib.Core.Bool.{Bool, true, false, cond}
 use mathlib.Core.List.{List}
 use native.Mathlib.Nat.{mod-lt, mul-le-mul_right}
 use native.Mathlib.Omega.{arith}
 use lib.Dec.{ltb}
-use borrow.Author.Tests.{ltb-true, ltb-false}
-use Rattle.model.specs.Exploration.{mergeable}
+use lib.ListN.{get_or}
+use borrow.Author.Tests.{ltb-true, ltb-false, lt-ltb, le-ltb, le-leb, lt-leb}
+use Rattle.model.specs.Exploration.{mergeable, state_words}
 use Rattle.states.specs.internal.Slots.{set_of, state_of, slot_of}
+use Rattle.links.specs.internal.Spare.{head_of}
 use Rattle.states.proofs.Merges.{mergeable_set}
 use Rattle.store.specs.internal.Half.{SetsFit, NoneMerges, NextOfSet}
 use Rattle.store.specs.internal.Chains.{FirstFrom, leads, Chains, LastBefore}
-use Rattle.store.specs.internal.Index.{bucket_of, bucket_at}
-use Rattle.store.proofs.Chains.{head_past, head_first, next_last}
+use Rattle.store.specs.internal.Index.{bucket_of, bucket_at, slot_head, head_room, head_at, Fits}
+use Rattle.store.specs.declared.Index.{Index}
+use Rattle.store.proofs.Storing.{slot_fits}
+use Rattle.store.proofs.Chains.{head_past, head_elsewhere, head_first, next_last}
 
 -- a fraction of the buckets is one of them
 scaled : (buckets y : ℕ) → y < 4294967296 → 0 < buckets → y * buckets / 4294967296 < buckets
@@ -25,11 +29,37 @@ pub bucket_inside : (buckets x : ℕ) → 0 < buckets → bucket_of buckets x < 
 unfolding bucket_of
 bucket_inside buckets x h = scaled buckets _ (mod-lt _ (omega arith)) h
 
+-- ---- where a head stands
+
+module _ (m k : ℕ) (index : Index) (ws heads : List ℕ) (used b : ℕ) where
+  pub head_in_heads : index.buckets ≤ head_room → head_at m k index ws heads used b ≡ get_or heads b 0
+  head_in_heads h = ap (λ (t : Bool). cond t (get_or heads b 0) (slot_head m k ws used b)) (le-leb index.buckets head_room h)
+
+  in_slot : head_room < index.buckets → head_at m k index ws heads used b ≡ slot_head m k ws used b
+  in_slot h = ap (λ (t : Bool). cond t (get_or heads b 0) (slot_head m k ws used b)) (lt-leb index.buckets head_room h)
+
+  pub head_in_state : head_room < index.buckets → b < used → head_at m k index ws heads used b ≡ head_of m k (slot_of m k ws b)
+  head_in_state h g =
+      in_slot h ∙ ap (λ (t : Bool). cond t (head_of m k (slot_of m k ws b)) (get_or ws (b * state_words m k) 0)) (lt-ltb b used g)
+
+  pub head_in_free : head_room < index.buckets → used ≤ b → head_at m k index ws heads used b ≡ get_or ws (b * state_words m k) 0
+  head_in_free h g =
+      in_slot h ∙ ap (λ (t : Bool). cond t (head_of m k (slot_of m k ws b)) (get_or ws (b * state_words m k) 0)) (le-ltb b used g)
+
+-- the slot of a bucket whose head stands in one lies in the half
+pub slot_of_bucket : (m k words : ℕ) (index : Index) (b : ℕ) → Fits m k words index → head_room < index.buckets → b < index.buckets
+    → b * state_words m k + state_words m k ≤ words
+slot_of_bucket m k words index b fits h l =
+    omega (arith, slot_fits b index.linked (state_words m k) (omega (arith, l, fits.in_slots h)), fits.inside)
+
 -- ---- the first state of a bucket, by its head
 
 module _ {c : ℕ} {β η link : ℕ → ℕ} (chains : Chains c β η link) (b r : ℕ) (e : r ≡ η b) where
   pub past : c ≤ r → FirstFrom c β b 0 c
   past h = head_past chains b (omega (arith, e, h))
+
+  pub elsewhere : (β r ≡ b → ⊥) → FirstFrom c β b 0 c
+  elsewhere d = head_elsewhere chains b (λ q. d (ap β e ∙ q))
 
   pub at_head : r < c → β r ≡ b → FirstFrom c β b 0 r
   at_head h q = subst (λ (z : ℕ). FirstFrom c β b 0 z) (sym e) (head_first chains b (omega (arith, e, h)) (ap β (sym e) ∙ q))

@@ -9,13 +9,13 @@ use native.Mathlib.Decide.{ℕ_discrete}
 use native.Mathlib.Omega.{arith}
 use lib.Dec.{ltb}
 use lib.ListN.{length, take, drop, get_or, set}
-use lib.Seq.{get_or-set_same}
-use borrow.Author.Tests.{ltb-true, ltb-false, lt-ltb, le-ltb, lt-leb}
+use lib.Seq.{get_or-set_same, get_or-set_other}
+use borrow.Author.Tests.{ltb-true, ltb-false, lt-ltb, le-ltb, le-leb, lt-leb}
 use borrow.Rule.Slice.PartMut.{put_mid}
 use Rattle.model.specs.Exploration.{merge, state_words}
 use Rattle.words.proofs.Parts.{part_length, part_get, part_set_before, part_set_after, length_put}
 use Rattle.states.specs.internal.Slots.{set_of, state_of, slot_of}
-use Rattle.links.specs.internal.Spare.{link_of, head_of, Kept}
+use Rattle.links.specs.internal.Spare.{spare_of, link_of, head_of, Kept}
 use Rattle.store.specs.internal.Half.{OthersKept, KeptAt, MergedAt}
 use Rattle.store.specs.internal.Index.{head_at, slot_head, head_room, Fits}
 use Rattle.store.specs.declared.Index.{Index}
@@ -39,6 +39,10 @@ module _ (m k j w : ℕ) (e : w ≡ state_words m k) (half : List ℕ) (h : j * 
 
   pub lent_length : length (lent j w half) ≡ state_words m k
   lent_length = ap length lent_slot ∙ part_length (j * state_words m k) (state_words m k) half h
+
+  -- it has spare words
+  pub lent_spare : (x : ℕ) → set_of (slot_of m k half j) ≡ x → spare_of x < k → spare_of (set_of (lent j w half)) < k
+  lent_spare x p q = subst (λ (z : ℕ). spare_of z < k) (sym (ap set_of lent_slot ∙ p)) q
 
   module _ (ys : List ℕ) (l : length ys ≡ length (lent j w half)) where
     is_put : back j w half ys ≡ put_mid (j * state_words m k) (state_words m k) half ys
@@ -136,6 +140,14 @@ Written m k index ws hs vs gs used b head =
     × ((j : ℕ) → j < used → KeptAt m k ws vs j × (link_of m k (slot_of m k vs j) ≡ link_of m k (slot_of m k ws j)))
 
 module _ (m k : ℕ) (index : Index) (ws hs : List ℕ) (used b head : ℕ) where
+  -- in a place of its own
+  pub written_apart : index.buckets ≤ head_room → b < length hs → Written m k index ws hs ws (set hs b head) used b head
+  written_apart few inside =
+      rw (le-leb index.buckets head_room few) (
+        (get_or-set_same hs b head 0 inside, λ c g ne. get_or-set_other hs b c head 0 ne),
+        λ j g. same_kept m k ws ws j refl,
+      )
+
   module _ (fits : Fits m k (length ws) index) (few : used ≤ index.linked) (many : head_room < index.buckets) (inside : b < index.buckets) (vs : List ℕ)
       (others : OthersKept m k b ws vs) where
     there : (j : ℕ) → j < index.linked → j * state_words m k + state_words m k ≤ length ws
