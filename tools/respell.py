@@ -65,7 +65,8 @@ def main():
     declared = set()
     for path, text in read.items():
         # The names of answers and invariants are those of goals, which the check gives.
-        if path.endswith(".antt") and not path.endswith(("/Answers.antt", "/Invariants.antt")):
+        of_goals = re.search(r"(?m)^use \S+\.(Goals|Given) as goal$", text)
+        if path.endswith(".antt") and not of_goals:
             declared |= set(DECLARED.findall(text))
     table = named(declared)
     for path, text in read.items():
