@@ -6,6 +6,7 @@ use native.Mathlib.Nat.{sub-zero}
 use native.Mathlib.Numerals.{add-one}
 use native.Mathlib.Omega.{arith}
 use lib.ListN.{length}
+use Rattle.std.specs.Prelude.{Result, Ok, Err}
 use borrow.Rule.Slice.PartMut.{put_mid, put_same}
 use Rattle.model.specs.Limits.{latest_time}
 use Rattle.model.specs.Jobs.{Job}
@@ -26,8 +27,7 @@ use Rattle.steps.specs.internal.Observed.{observed_of, Observed}
 use Rattle.steps.specs.internal.Progress.{progress_of, Half, Target, HalfAt, Linkable, Leaves}
 use Rattle.analysis.specs.internal.Answers.{Halves, AllLinkable}
 use Rattle.steps.specs.declared.shape.Shape.{Shape}
-use Rattle.steps.specs.declared.progress.Progress.{Progress}
-use Rattle.steps.specs.declared.progress.Progress.TheVariants.{Going}
+use Rattle.steps.specs.declared.stop.Stop.{Stop}
 use Rattle.steps.proofs.Following.{Stopped, jobs_stopped, ended}
 use Rattle.analysis.proofs.Halves.{put_put, source_kept}
 
@@ -70,7 +70,6 @@ pub record Building (rows : List ℕ) (k m cap : ℕ) (index : Index) (from to n
   pub halves : Halves (length table₀) (cap * state_words m k) from to
   pub given : Half (jobs_of_rows rows k) m k cap (part from (cap * state_words m k) table₀) n
   pub linkable : AllLinkable (shaped k m cap index) (part from (cap * state_words m k) table₀) n
-  pub upto : j ≤ n
   pub long : length table ≡ length table₀
   pub target : Target (jobs_of_rows rows k) (shaped k m cap index) (part to (cap * state_words m k) table) heads built
   pub frame : table ≡ put_mid to (cap * state_words m k) table₀ (part to (cap * state_words m k) table)
@@ -96,7 +95,6 @@ building_starts {rows} {k} {m} {cap} {index} {from} {to} {n} {table} {seen} {hea
       halves = h;
       given = g;
       linkable = a;
-      upto = omega arith;
       long = refl;
       target = (
         record { long = part_length to (cap * state_words m k) table h.target; room = omega arith; sound = λ j b. absurd (omega (arith, b)) },
@@ -131,18 +129,14 @@ module _ {rows : List ℕ} {k m cap : ℕ} {index : Index} {from to n : ℕ} {ta
   Next c = try_states js cap (states_of m k (part from size table₀) n) (going [] (observed_of k seen₀) c)
 
   -- what the level's end leaves, and that the rest of the table is as it was
-  abbrev Built : Progress → List ℕ → List ℕ → List ℕ → Type 0
+  abbrev Built : Result ℕ Stop → List ℕ → List ℕ → List ℕ → Type 0
   Built r table seen heads = Leaves js shape Next r (part to size table) seen heads × (table ≡ put_mid to size table₀ (part to size table))
-
-  -- state j lies in the half that is read
-  source_inside : j < n → from + j * W + W ≤ length table₀
-  source_inside h = omega (arith, slot_fits j cap W (omega (arith, before.given.room)), before.halves.source)
 
   target_long : length (part to size table) ≡ size
   target_long = part_length to size table (omega (arith, before.halves.target, before.long))
 
   -- after the last, the level is built
-  pub building_ends : n ≤ j → Built (Going built) table seen heads
+  pub building_ends : n ≤ j → Built (Ok built) table seen heads
   building_ends h = (
     record {
       same = λ c. sym (states_end js cap source n j (going (states_of m k (part to size table) built) (observed_of k seen) c) h) ∙ before.rest c;
@@ -167,10 +161,6 @@ module _ {rows : List ℕ} {k m cap : ℕ} {index : Index} {from to n : ℕ} {ta
 
     spans : span ≡ size
     spans = ap (λ (z : ℕ). to + cap * z - to) wide ∙ cut to size
-
-    -- the state that is read lies in the table
-    pub read_inside : at + w ≤ length table
-    read_inside = rw wide (omega (arith, source_inside more, before.long))
 
     -- the half that is lent is the one that is built
     pub target_half : Target js shape (part to span table) heads built
@@ -199,7 +189,7 @@ module _ {rows : List ℕ} {k m cap : ℕ} {index : Index} {from to n : ℕ} {ta
       pub loaded_linkable : Linkable shape cur
       loaded_linkable h = omega (arith, ap level in_hand, before.linkable j more h)
 
-      module _ {r : Progress} {half seen' heads' : List ℕ} (kept : length half ≡ length (part to span table))
+      module _ {r : Result ℕ Stop} {half seen' heads' : List ℕ} (kept : length half ≡ length (part to span table))
           (leaves : Leaves js shape (λ c. try_jobs js cap (state_of m k cur) k (going (states_of m k (part to span table) built) (observed_of k seen) c))
           r half seen' heads') where
         abbrev table' : List ℕ
@@ -236,20 +226,19 @@ module _ {rows : List ℕ} {k m cap : ℕ} {index : Index} {from to n : ℕ} {ta
             ∙ sym (states_on js cap source n j x more) ∙ before.rest c
 
         -- a step that goes on leaves one state more explored
-        pub building_goes_on : {count : ℕ} → r ≡ Going count → Building rows k m cap index from to n table₀ seen₀ table' seen' heads' count (j + 1)
+        pub building_goes_on : {count : ℕ} → r ≡ Ok count → Building rows k m cap index from to n table₀ seen₀ table' seen' heads' count (j + 1)
         building_goes_on {count} e =
             record {
               halves = before.halves;
               given = before.given;
               linkable = before.linkable;
-              upto = omega arith;
               long = table_long;
-              target = subst (λ (z : List ℕ). Target js shape z heads' count) (sym put) (subst (λ (z : Progress). HalfAt js shape z half heads') e leaves.sound);
+              target = subst (λ (z : List ℕ). Target js shape z heads' count) (sym put) (subst (λ (z : Result ℕ Stop). HalfAt js shape z half heads') e leaves.sound);
               frame = framed;
               observed = leaves.observed;
               rest = λ c.
                   ap (λ (z : List ℕ). try_states js cap (tabulate source (j + 1) (n - (j + 1))) (going (states_of m k z count) (observed_of k seen') c)) put
-                  ∙ ap (λ (z : Progress). try_states js cap (tabulate source (j + 1) (n - (j + 1))) (progress_of m k (observed_of k seen') c z half)) (sym e) ∙ after c;
+                  ∙ ap (λ (z : Result ℕ Stop). try_states js cap (tabulate source (j + 1) (n - (j + 1))) (progress_of m k (observed_of k seen') c z half)) (sym e) ∙ after c;
             }
 
         stays : (x : Exploration) → Stopped x → (c : ℕ) → progress_of m k (observed_of k seen') c r half ≡ x → x ≡ Next c
@@ -258,13 +247,14 @@ module _ {rows : List ℕ} {k m cap : ℕ} {index : Index} {from to n : ℕ} {ta
             sym (states_stopped js cap rest x h) ∙ ap (try_states js cap rest) (sym e) ∙ after c
 
         -- a step that does not go on ends the level
-        pub building_stops : ((i : ℕ) → r ≡ Going i → ⊥) → Built r table' seen' heads'
-        building_stops h = (
+        pub building_stops : {stop : Stop} → r ≡ Err stop → Built (Err stop) table' seen' heads'
+        building_stops {stop} e = (
           record {
             same = λ c.
-                ap (progress_of m k (observed_of k seen') c r) put
-                ∙ stays (progress_of m k (observed_of k seen') c r half) (ended r h m k (observed_of k seen') c half) c refl;
-            sound = subst (λ (z : List ℕ). HalfAt js shape r z heads') (sym put) leaves.sound;
+                ap (progress_of m k (observed_of k seen') c (Err stop)) put
+                ∙ stays (progress_of m k (observed_of k seen') c (Err stop) half) (ended stop m k (observed_of k seen') c half) c
+                (ap (λ (z : Result ℕ Stop). progress_of m k (observed_of k seen') c z half) e);
+            sound = tt;
             observed = leaves.observed;
           },
           framed,

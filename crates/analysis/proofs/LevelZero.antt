@@ -138,10 +138,6 @@ module _ (rows : List ℕ) (k m : ℕ) (table : List ℕ) {w : ℕ} (wide : w �
     one_fits : width ≤ cap * width
     one_fits = omega (arith, mul-le-mul_right width room_for_one, one-mul width)
 
-    -- the first state lies in the table
-    pub first_inside : w ≤ length table
-    first_inside = omega (arith, wide, one_fits, halves_fit)
-
     -- the table with its first state cleared
     module _ {first : List ℕ} (blank : first ≡ zeros (length (part 0 (w - 0) table))) where
       abbrev cleared : List ℕ

@@ -1,18 +1,18 @@
 -- Level after level: what holds before each, and what each leaves. Assumes nothing.
 use Prim.Native.Nat.{ℕ, ◌+◌, ◌*◌, ◌≤◌, ◌<◌}
 use mathlib.Core.Path.{◌≡◌, refl, sym, ap, ◌∙◌, subst}
-use mathlib.Core.Logic.{inl}
 use mathlib.Core.Bool.{true}
 use mathlib.Core.List.{List, []}
-use native.Mathlib.Nat.{suc-mul, mul_comm, mul-le-mul_right}
+use native.Mathlib.Nat.{suc-mul}
 use native.Mathlib.Numerals.{add-one, lt_of_le_of_ne}
 use native.Mathlib.Omega.{arith}
 use lib.Dec.{eqb}
 use lib.ListN.{length, drop}
 use borrow.Author.Tests.{eq-eqb}
 use borrow.Rule.Slice.PartMut.{put_mid}
+use Rattle.std.specs.Prelude.{Result, Ok, Err}
 use Rattle.model.specs.Jobs.{Job}
-use Rattle.model.specs.Exploration.{Exploration, going, full, miss, try_states, counted, next_level, explored, Verdict, accepted, refused, late, verdict_of, analysis, state_words}
+use Rattle.model.specs.Exploration.{Exploration, going, full, miss, try_states, counted, next_level, explored, Verdict, accepted, verdict_of, analysis, state_words}
 use Rattle.model.proofs.Coverage.{kept_from}
 use Rattle.words.proofs.Tabulate.{length_tabulate}
 use Rattle.words.proofs.Parts.{part_length, drop_after}
@@ -23,10 +23,10 @@ use Rattle.states.specs.internal.Slots.{state_of, slot_of, states_of}
 use Rattle.steps.specs.internal.Observed.{observed_of, Observed}
 use Rattle.store.specs.declared.Index.{Index}
 use Rattle.steps.specs.internal.Progress.{progress_of, Half, HalfAt, Leaves}
-use Rattle.analysis.specs.internal.Answers.{Halves, AllLinkable}
-use Rattle.steps.specs.declared.progress.Progress.{Progress}
-use Rattle.steps.specs.declared.progress.Progress.TheVariants.{Going, Full, Late}
-use Rattle.steps.proofs.Following.{Stopped}
+use Rattle.analysis.specs.internal.Answers.{Halves, AllLinkable, verdict_in}
+use Rattle.steps.specs.declared.stop.Stop.{Stop}
+use Rattle.steps.specs.declared.stop.Stop.TheVariants.{Full, Late}
+use Rattle.steps.proofs.Following.{Stopped, ended}
 use Rattle.analysis.proofs.Depth.{depth_of}
 use Rattle.analysis.proofs.Building.{shaped}
 use Rattle.analysis.proofs.Halves.{Roles, roles_apart, roles_change}
@@ -55,12 +55,16 @@ counted_stopped (going l seen c) h = absurd h
 counted_stopped (full n) h = refl
 counted_stopped (miss i e f) h = refl
 
+-- the verdict of a step that does not go on is that of its exploration
+verdict_stop : (stop : Stop) (m k c : ℕ) (seen half : List ℕ) → verdict_of (progress_of m k (observed_of k seen) c (Err stop) half) ≡ verdict_in k (Err stop) seen
+verdict_stop (Full l) m k c seen half = refl
+verdict_stop (Late i e f) m k c seen half = refl
+
 -- ---- the levels while they are built
 
 -- so many levels are complete; the last, of n states, is in the half that is read next
 pub record LevelsBuilt (rows : List ℕ) (k m cap : ℕ) (table₀ table seen : List ℕ) (from to n count level : ℕ) : Type 0 where
   pub room : 2 * (cap * state_words m k) ≤ length table₀
-  pub upto : level ≤ k
   pub long : length table ≡ length table₀
   pub roles : Roles (cap * state_words m k) from to
   pub half : Half (jobs_of_rows rows k) m k cap (part from (cap * state_words m k) table) n
@@ -68,23 +72,6 @@ pub record LevelsBuilt (rows : List ℕ) (k m cap : ℕ) (table₀ table seen : 
   pub past : drop (2 * (cap * state_words m k)) table ≡ drop (2 * (cap * state_words m k)) table₀
   pub few : count ≤ 1 + level * cap
   pub same : going (states_of m k (part from (cap * state_words m k) table) n) (observed_of k seen) count ≡ explored (jobs_of_rows rows k) m cap level
-
--- before the first, level 0 is complete
-pub levels_begin : {rows : List ℕ} {k m cap : ℕ} {table seen : List ℕ} {w : ℕ} → 2 * (cap * state_words m k) ≤ length table → w ≡ state_words m k
-    → Half (jobs_of_rows rows k) m k cap (part 0 (cap * state_words m k) table) 1 → Observed k seen
-    → going (states_of m k (part 0 (cap * state_words m k) table) 1) (observed_of k seen) 1 ≡ explored (jobs_of_rows rows k) m cap 0 → LevelsBuilt rows k m cap table table seen 0 (cap * w) 1 1 0
-levels_begin {cap = cap} r e h o s =
-    record {
-      room = r;
-      upto = omega arith;
-      long = refl;
-      roles = inl (refl, ap (λ (z : ℕ). cap * z) e);
-      half = h;
-      observed = o;
-      past = refl;
-      few = omega arith;
-      same = s;
-    }
 
 module _ {rows : List ℕ} {k m cap : ℕ} {table₀ table seen : List ℕ} {from to n count level : ℕ} (before : LevelsBuilt rows k m cap table₀ table seen from to n count level) where
   abbrev js : List Job
@@ -105,10 +92,10 @@ module _ {rows : List ℕ} {k m cap : ℕ} {table₀ table seen : List ℕ} {fro
   halves_apart = sides.0
 
   -- after the last, the analysis accepts
-  pub levels_end : k ≤ level → Answered (accepted (observed_of k seen) count) table seen
+  pub levels_end : level ≡ k → Answered (accepted (observed_of k seen) count) table seen
   unfolding analysis
   levels_end h =
-      let e : level ≡ length js = omega (arith, before.upto, length_jobs rows k) in
+      let e = h ∙ sym (length_jobs rows k) in
       (ap verdict_of (before.same ∙ ap (explored js m cap) e), (before.observed, before.past))
 
   -- if the states of the last level are not linked, those that follow the states of this one can be, where they are
@@ -117,7 +104,7 @@ module _ {rows : List ℕ} {k m cap : ℕ} {table₀ table seen : List ℕ} {fro
       let not_last : level + 1 < k = lt_of_le_of_ne (omega arith) (λ e. omega (arith, last (eq-eqb _ _ e), h)) in
       omega (arith, depth_of js m k cap (part from size table) before.same j b)
 
-  module _ {index : Index} {r : Progress} {table' seen' heads : List ℕ} (more : level < k) (kept : length table' ≡ length table)
+  module _ {index : Index} {r : Result ℕ Stop} {table' seen' heads : List ℕ} (more : level < k) (kept : length table' ≡ length table)
       (leaves : Leaves js (shaped k m cap index) (λ c. try_states js cap (states_of m k (part from size table) n) (going [] (observed_of k seen) c)) r
       (part to size table') seen' heads)
       (frame : table' ≡ put_mid to size table (part to size table')) where
@@ -130,18 +117,12 @@ module _ {rows : List ℕ} {k m cap : ℕ} {table₀ table seen : List ℕ} {fro
         let l = part_length to size table' (omega (arith, kept, halves_apart.target)) in
         ap (drop (2 * size)) frame ∙ drop_after to size table (part to size table') halves_apart.target l (2 * size) sides.1 ∙ before.past
 
-    module _ {x : ℕ} (e : r ≡ Going x) where
+    module _ {x : ℕ} (e : r ≡ Ok x) where
       half : Half js m k cap (part to size table') x
-      half = (subst (λ (z : Progress). HalfAt js (shaped k m cap index) z (part to size table') heads) e leaves.sound).0
+      half = (subst (λ (z : Result ℕ Stop). HalfAt js (shaped k m cap index) z (part to size table') heads) e leaves.sound).0
 
       few : count + x ≤ 1 + (level + 1) * cap
       few = omega (arith, ap (λ (z : ℕ). z * cap) (add-one level) ∙ suc-mul level cap, before.few, half.room)
-
-      -- the count of states fits: a state has two words for each job
-      pub count_fits : count + x ≤ 1 + length table₀
-      count_fits =
-          let q : (level + 1) * cap ≤ state_words m k * cap = mul-le-mul_right cap (omega arith) in
-          omega (arith, few, q, mul_comm (state_words m k) cap, before.room)
 
       -- a level that goes on is complete, and the halves change roles
       pub levels_go_on : LevelsBuilt rows k m cap table₀ table' seen' to from x (count + x) (level + 1)
@@ -149,7 +130,6 @@ module _ {rows : List ℕ} {k m cap : ℕ} {table₀ table seen : List ℕ} {fro
       levels_go_on =
           record {
             room = before.room;
-            upto = omega arith;
             long = kept ∙ before.long;
             roles = roles_change size from to before.roles;
             half = half;
@@ -159,19 +139,16 @@ module _ {rows : List ℕ} {k m cap : ℕ} {table₀ table seen : List ℕ} {fro
             same =
                 ap (λ (z : ℕ). going (states_of m k (part to size table') x) (observed_of k seen') (count + z))
                 (sym (length_tabulate (λ (j : ℕ). state_of m k (slot_of m k (part to size table') j)) 0 x))
-                ∙ ap (λ (z : Progress). counted (progress_of m k (observed_of k seen') count z (part to size table'))) (sym e) ∙ next;
+                ∙ ap (λ (z : Result ℕ Stop). counted (progress_of m k (observed_of k seen') count z (part to size table'))) (sym e) ∙ next;
           }
 
-    stopped : (end : Progress) → r ≡ end → Stopped (progress_of m k (observed_of k seen') count end (part to size table')) → verdict_of (progress_of m k (observed_of k seen') count end (part to size table')) ≡ analysis js m cap
-    stopped end e h =
-        stops js m cap (level + 1) (progress_of m k (observed_of k seen') count end (part to size table')) h (omega (arith, length_jobs rows k))
-        (sym (counted_stopped (progress_of m k (observed_of k seen') count end (part to size table')) h)
-        ∙ ap (λ (z : Progress). counted (progress_of m k (observed_of k seen') count z (part to size table'))) (sym e) ∙ next)
-
-    -- a level that is full ends the analysis
-    pub levels_full : {l : ℕ} → r ≡ Full l → Answered (refused 13 l) table' seen'
-    levels_full {l} e = (stopped (Full l) e tt, (leaves.observed, past))
-
-    -- and so does a late job
-    pub levels_late : {i early last : ℕ} → r ≡ Late i early last → Answered (late i early last) table' seen'
-    levels_late {i} {early} {last} e = (stopped (Late i early last) e tt, (leaves.observed, past))
+    -- a level that is full ends the analysis, and so does a late job
+    pub levels_stop : {stop : Stop} → r ≡ Err stop → Answered (verdict_in k (Err stop) seen') table' seen'
+    levels_stop {stop} e =
+        let x = progress_of m k (observed_of k seen') count (Err stop) (part to size table') in
+        let h = ended stop m k (observed_of k seen') count (part to size table') in (
+          sym (verdict_stop stop m k count seen' (part to size table'))
+              ∙ stops js m cap (level + 1) x h (omega (arith, length_jobs rows k))
+              (sym (counted_stopped x h) ∙ ap (λ (z : Result ℕ Stop). counted (progress_of m k (observed_of k seen') count z (part to size table'))) (sym e) ∙ next),
+          (leaves.observed, past),
+        )

@@ -16,21 +16,9 @@ use model::limits::MOST_JOBS;
 use states::copying::load_state;
 use states::sizes::{MOST_STATE_WORDS, state_words};
 use steps::explore::try_state;
-use steps::progress::Progress;
 use steps::shape::Shape;
+use steps::stop::Stop;
 use store::{HEAD_ROOM, Index};
-use words::clear;
-
-// What the analysis ends with.
-#[derive(Clone, Copy)]
-pub enum Analysed {
-    // Every job meets its deadline; so many states were stored.
-    Accepted(u64),
-    // A half has no room for a state of this level.
-    Full(u32),
-    // A job misses its deadline, with these finish times.
-    Late(usize, u32, u32),
-}
 
 // Where a level stands: its states, from word `from` of the table on. The next is built from word `to` on.
 #[derive(Clone, Copy)]
@@ -40,7 +28,7 @@ pub struct Level {
     pub to: usize,
 }
 
-// Explores the states of a level, in stored order. The state in hand is a copy: the table is lent on to store what follows it.
+// Explores the states of a level, in stored order, and tells how many follow. The state in hand is a copy: the table is lent on to store what follows it.
 pub fn build_level(
     table: &mut [u32],
     seen: &mut [u32],
@@ -49,7 +37,7 @@ pub fn build_level(
     sets: &[u64],
     shape: Shape,
     level: Level,
-) -> Progress
+) -> Result<usize, Stop>
     requires setting { Setting rows.now shape.jobs shape.cores × (shape.jobs ≤ length sets.now)
         × PredecessorSets (jobs_in shape rows.now) shape.jobs sets.now }
     requires halves { Halves (length table.old) (half_words shape) level.from level.to
@@ -75,12 +63,11 @@ pub fn build_level(
     let end = to + cap * w;
     let mut cur = [0u32; MOST_STATE_WORDS];
     let mut built = 0;
-    let mut j = 0;
-    while j < n {
+    for j in 0..n {
         let at = from + j * w;
         let next = at + w;
         load_state(&mut cur, &table[at..next], m, k);
-        let progress = try_state(
+        built = try_state(
             &mut table[to..end],
             seen,
             heads,
@@ -89,14 +76,9 @@ pub fn build_level(
             sets,
             &mut cur,
             shape,
-        );
-        let Progress::Going(x) = progress else {
-            return progress;
-        };
-        built = x;
-        j += 1;
+        )?;
     }
-    Progress::Going(built)
+    Ok(built)
 }
 
 // The last slot that a word can name.
@@ -130,10 +112,7 @@ fn index_of(cap: usize, n: usize, last: bool) -> Index
             buckets: 0,
         };
     }
-    let mut linked = cap;
-    if LAST_SLOT < cap {
-        linked = LAST_SLOT;
-    }
+    let linked = cap.min(LAST_SLOT);
     Index {
         linked,
         buckets: bucket_count(linked, n),
@@ -148,7 +127,7 @@ pub fn build_levels(
     k: usize,
     m: usize,
     cap: usize,
-) -> Analysed
+) -> Result<u64, Stop>
     requires setting { Setting rows.now k m × (2 * (cap * state_words m k) ≤ length table.old) × (1 ≤ cap)
         × Half (jobs_of_rows rows.now k) m k cap (part 0 (cap * state_words m k) table.old) 1 × Observed k seen.old }
     requires seen_value { going (states_of m k (part 0 (cap * state_words m k) table.old) 1) (observed_of k seen.old) 1 ≡ explored (jobs_of_rows rows.now k) m cap 0 }
@@ -163,8 +142,7 @@ pub fn build_levels(
     let mut to = cap * state_words(m, k);
     let mut n = 1;
     let mut count = 1u64;
-    let mut depth = 0;
-    while depth < k {
+    for depth in 0..k {
         let shape = Shape {
             cores: m,
             jobs: k,
@@ -176,40 +154,34 @@ pub fn build_levels(
             states: n,
             to,
         };
-        match build_level(table, seen, &mut heads, rows, &sets, shape, level) {
-            Progress::Going(x) => {
-                n = x;
-                count += x as u64;
-            }
-            Progress::Full(l) => {
-                return Analysed::Full(l);
-            }
-            Progress::Late(i, e, f) => {
-                return Analysed::Late(i, e, f);
-            }
-        }
-        let t = from;
-        from = to;
-        to = t;
-        depth += 1;
+        n = build_level(table, seen, &mut heads, rows, &sets, shape, level)?;
+        count += n as u64;
+        (from, to) = (to, from);
     }
-    Analysed::Accepted(count)
+    Ok(count)
 }
 
-// The analysis of k jobs on m cores: each half of the table has room for as many states as it takes whole.
-pub fn analyse(table: &mut [u32], seen: &mut [u32], rows: &[u32], k: usize, m: usize) -> Analysed
+// The analysis of k jobs on m cores: so many states are stored where every job meets its deadline. Each half of the table has room for as many states as it
+// takes whole.
+pub fn analyse(
+    table: &mut [u32],
+    seen: &mut [u32],
+    rows: &[u32],
+    k: usize,
+    m: usize,
+) -> Result<u64, Stop>
     requires { Setting rows.now k m × (length seen.old ≡ observed_words) }
     ensures seen_after { verdict_in k result seen.new ≡ analysis (jobs_of_rows rows.now k) m (capacity (length table.old) m k) }
     ensures observed { Observed k seen.new }
     ensures table_unchanged { drop (2 * (capacity (length table.old) m k * state_words m k)) table.new
         ≡ drop (2 * (capacity (length table.old) m k * state_words m k)) table.old }
 {
-    clear(seen);
+    seen.fill(0);
     let w = state_words(m, k);
     let cap = table.len() / (2 * w);
     if cap == 0 {
-        return Analysed::Full(0);
+        return Err(Stop::Full(0));
     }
-    clear(&mut table[0..w]);
+    table[0..w].fill(0);
     build_levels(table, seen, rows, k, m, cap)
 }

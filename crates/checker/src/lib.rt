@@ -12,17 +12,17 @@ ghost use Rattle.checking.specs.Checking.{verdict, level_words, TableKept, check
 ghost use Rattle.checking.specs.Certain.{ResultByRun};
 ghost use Rattle.checker.specs.internal.Analysed.{analysed_of};
 
-use analysis::levels::{Analysed, analyse};
+use analysis::levels::analyse;
 use checking::refused;
 pub use checking::{Answer, Checked};
 use jobs::row::JOB_TABLE;
 use jobset::write_jobs;
 use model::limits::MOST_JOBS;
-use model::refusals::LEVEL_FULL;
+use model::refusals::{LEVEL_FULL, Refusal};
 use reader::read;
-use records::answers::Reading;
 use results::accepting;
 use rows::{CORES, NOTE_COUNT, PHRASE_WORDS, header_word};
+use steps::stop::Stop;
 
 // The words of the observed finish ranges: the earliest finish times of all jobs, then the latest.
 const OBSERVED_WORDS: usize = 2 * MOST_JOBS;
@@ -35,12 +35,12 @@ fn analysed(rows: &[u32; JOB_TABLE], k: usize, m: usize, table: &mut [u32]) -> C
         ≡ drop (level_words (length table.old) m k) table.old }
 {
     let mut seen = [0u32; OBSERVED_WORDS];
-    let outcome = analyse(table, &mut seen, rows, k, m);
-    match outcome {
-        Analysed::Accepted(states) => accepting(rows, k, &seen, states),
-        Analysed::Full(level) => refused(Answer::Refused(LEVEL_FULL, level as usize)),
-        Analysed::Late(job, earliest, latest) => refused(Answer::Late(job, earliest, latest)),
-    }
+    let answer = match analyse(table, &mut seen, rows, k, m) {
+        Ok(states) => return accepting(rows, k, &seen, states),
+        Err(Stop::Full(level)) => Answer::Refused(LEVEL_FULL, level as usize),
+        Err(Stop::Late(job, earliest, latest)) => Answer::Late(job, earliest, latest),
+    };
+    refused(answer)
 }
 
 // Analyses the jobs of a phrase, from its table.
@@ -62,10 +62,9 @@ pub fn check_phrase(file: &[u8], phrase: &mut [u32; PHRASE_WORDS], table: &mut [
     ensures phrase { phrase.new ≡ phrase_table (reading file.now) }
     ensures table { TableKept (reading file.now) table.old table.new }
 {
-    let answer = read(file, phrase);
-    match answer {
-        Reading::Refused(number, place) => refused(Answer::Refused(number, place)),
-        Reading::Whole => analysed_phrase(phrase, table),
+    match read(file, phrase) {
+        Err(Refusal { number, place }) => refused(Answer::Refused(number, place)),
+        Ok(()) => analysed_phrase(phrase, table),
     }
 }
 

@@ -3,7 +3,7 @@
 use Prim.Native.Nat.{ℕ, ◌+◌, ◌*◌, ◌≤◌, ◌<◌, max}
 use mathlib.Core.Path.{◌≡◌, refl, sym, ap, ◌∙◌, subst}
 use mathlib.Core.Logic.{◌⊎◌, inl, inr, ⊎_elim}
-use mathlib.Core.Bool.{Bool, true, false, not, true≢false, false≢true}
+use mathlib.Core.Bool.{true, not}
 use mathlib.Core.List.{List}
 use native.Mathlib.Decide.{ℕ_discrete}
 use native.Mathlib.Omega.{arith}
@@ -27,8 +27,9 @@ use Rattle.jobs.specs.internal.JobRow.{row_words, jobs_of_rows, priority_at}
 use Rattle.jobs.proofs.Jobs.{length_jobs, field_of}
 use Rattle.playing.specs.Playing.{scenario_in}
 use Rattle.dispatch.specs.internal.Wakes.{asleep, started_word, last_moment, wake_of, word_of, woken_by, EachWakes}
-use Rattle.dispatch.specs.internal.Choice.{IsFirst, key_of, IsNext}
-use Rattle.dispatch.specs.internal.Turns.{Dispatchable, history_of, unstarted_in, ZeroFrom, Standing, WordsKept, Turn, Over, Turned}
+use Rattle.dispatch.specs.internal.Choice.{IsFirst, key_of, IsLeast, IsNext}
+use Rattle.std.specs.Prelude.{None}
+use Rattle.dispatch.specs.internal.Turns.{Dispatchable, history_of, unstarted_in, ZeroFrom, Standing, WordsKept, Over, Turned}
 use Rattle.dispatch.proofs.Waking.{awake, wakes_by, waits_for_holds, wake_same, woken_anew, woken_as_before}
 use Rattle.dispatch.proofs.Histories.{fresh_zero, zero_fresh, entry_ran, rested_by, ran_same, length_history, entry_of, history_set}
 use Rattle.dispatch.proofs.Moments.{horizon_small, release_within}
@@ -122,10 +123,10 @@ module _ (rows : List ℕ) (k : ℕ) (playing starts finishes wakes cores : List
 
   -- ---- no job is awake
 
-  module _ (c i : ℕ) (in-cores : c < length cores) (next : IsNext (key_of js wakes (get_or cores c 0)) k i) (none : i ≡ k) where
+  module _ (c : ℕ) (in-cores : c < length cores) (next : IsNext (key_of js wakes (get_or cores c 0)) k None) where
     asleep_all : (j : ℕ) → j < k → asleep ≤ wake j
     unfolding key_of
-    asleep_all j b = omega (arith, next.none none j b, standing.cores_within c in-cores, small, priority_small j b)
+    asleep_all j b = omega (arith, next j b, standing.cores_within c in-cores, small, priority_small j b)
 
     all_started : (j : ℕ) → j < k → finish j ≡ 0 → ⊥
     unfolding wake_of
@@ -166,7 +167,10 @@ module _ (rows : List ℕ) (k : ℕ) (playing starts finishes wakes cores : List
 
   -- ---- the job that starts
 
-  module _ (c i : ℕ) (in-cores : c < length cores) (is_first : IsFirst cores (length cores) c) (next : IsNext (key_of js wakes (get_or cores c 0)) k i) (inside : i < k) where
+  module _ (c i : ℕ) (in-cores : c < length cores) (is_first : IsFirst cores (length cores) c) (next : IsLeast (key_of js wakes (get_or cores c 0)) k i) where
+    inside : i < k
+    inside = next.inside
+
     abbrev free : ℕ
     free = get_or cores c 0
 
@@ -178,7 +182,7 @@ module _ (rows : List ℕ) (k : ℕ) (playing starts finishes wakes cores : List
 
     is_awake : wake i < asleep
     unfolding key_of
-    is_awake = omega (arith, next.awake inside)
+    is_awake = omega (arith, next.awake)
 
     fresh : finish i ≡ 0
     fresh = awake_fresh i inside is_awake
@@ -186,7 +190,7 @@ module _ (rows : List ℕ) (k : ℕ) (playing starts finishes wakes cores : List
     -- it is the first that can start
     none_sooner : (j : ℕ) → j < k → u ≤ max free (wake j)
     unfolding key_of
-    none_sooner j b = omega (arith, (next.least inside j b).0, priority_small j b)
+    none_sooner j b = omega (arith, (next.least j b).0, priority_small j b)
 
     not_before : t ≤ u
     not_before = standing.not_before c i in-cores inside is_awake
@@ -207,8 +211,8 @@ module _ (rows : List ℕ) (k : ℕ) (playing starts finishes wakes cores : List
         same = omega (arith, (ready_wakes u j (in_rows j b) r).1, none_sooner j (in_rows j b))
 
         go : Before js j i → ⊥
-        go (inl l) = omega (arith, same, (next.least inside j (in_rows j b)).0)
-        go (inr x) = omega (arith, x.1, (next.least inside j (in_rows j b)).1 (omega (arith, same, x.0)))
+        go (inl l) = omega (arith, same, (next.least j (in_rows j b)).0)
+        go (inr x) = omega (arith, x.1, (next.least j (in_rows j b)).1 (omega (arith, same, x.0)))
 
     starts_next : Stage js m s u (set h i (ran u f)) × (f ≤ horizon js s)
     starts_next =
@@ -382,30 +386,3 @@ module _ (rows : List ℕ) (k : ℕ) (playing starts finishes wakes cores : List
           record { time = u; standing = standing_after kept woken same-long known; kept = kept_after kept woken same-long known },
           one_fewer kept woken same-long known,
         )
-
--- between two starts, or at the end
-abbrev pub OnOrOver : List ℕ → ℕ → ℕ → List ℕ → List ℕ → List ℕ → List ℕ → List ℕ → Bool → Type 0
-OnOrOver rows k m playing starts finishes wakes cores true = (length cores ≡ m) × Turn rows k playing starts finishes wakes cores
-OnOrOver rows k m playing starts finishes wakes cores false = (length cores ≡ m) × Over rows k m playing starts finishes
-
-module _ (rows : List ℕ) (k m : ℕ) (playing starts finishes wakes cores : List ℕ) where
-  pub goes_on : (more : Bool) → more ≡ true → OnOrOver rows k m playing starts finishes wakes cores more → (length cores ≡ m) × Turn rows k playing starts finishes wakes cores
-  goes_on true e x = x
-  goes_on false e x = absurd (false≢true e)
-
-  pub has_ended : (more : Bool) → more ≡ false → OnOrOver rows k m playing starts finishes wakes cores more → Over rows k m playing starts finishes
-  has_ended true e x = absurd (true≢false e)
-  has_ended false e x = x.1
-
-  pub as_many : (more : Bool) → OnOrOver rows k m playing starts finishes wakes cores more → length cores ≡ m
-  as_many true x = x.0
-  as_many false x = x.0
-
-  module _ (before : List ℕ) where
-    pub turned_going : (more : Bool) → Turned rows k m playing before starts finishes wakes cores more → OnOrOver rows k m playing starts finishes wakes cores more
-    turned_going true x = (x.0, x.1)
-    turned_going false x = (x.0, x.1)
-
-    pub turned_less : (more : Bool) → Turned rows k m playing before starts finishes wakes cores more → ind more + unstarted_in finishes k < 1 + unstarted_in before k
-    turned_less true x = omega (arith, x.2)
-    turned_less false x = omega (arith, x.2)

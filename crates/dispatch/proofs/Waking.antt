@@ -4,14 +4,13 @@ use mathlib.Core.Path.{◌≡◌, refl, sym, ap, ◌∙◌}
 use mathlib.Core.Logic.{◌⊎◌, inl, inr, ⊎_elim}
 use mathlib.Core.Bool.{Bool, true, false, ◌&&◌, cond}
 use mathlib.Core.List.{List, [], ◌∷◌}
-use native.Mathlib.Nat.{not-suc-le-zero}
 use native.Mathlib.Decide.{ℕ_discrete}
 use native.Mathlib.Omega.{arith}
 use native.Mathlib.Numerals.{add-one}
 use lib.Dec.{eqb, ltb}
 use lib.ListN.{get_or, length, set, drop, drop_of_length-le}
-use lib.Seq.{drop-cons, get_or-set_same, get_or-set_other}
-use borrow.Author.Tests.{lt-ltb, le-ltb, eq-eqb, ne_eqb, eqb-false}
+use lib.Seq.{drop-cons, get_or-set_other}
+use borrow.Author.Tests.{lt-ltb, eq-eqb, ne_eqb, eqb-false}
 use Rattle.model.specs.Folds.{member, largest, all}
 use Rattle.model.specs.Jobs.{Job, predecessors, rest_of}
 use Rattle.model.specs.Dispatch.{Scenario}
@@ -122,9 +121,6 @@ module _ (finishes : List ℕ) where
     pub have_started : StartedUpTo finishes ws l
     pub latest : max from (largest all (λ w. get_or finishes w 0) (drop l ws)) ≡ max release (largest all (λ w. get_or finishes w 0) ws)
 
-  pub looked_none : (ws : List ℕ) (release : ℕ) → LookedAt ws release 0 release
-  looked_none ws release = record { have_started = λ l h. absurd (not-suc-le-zero h); latest = refl }
-
   module _ (ws : List ℕ) (release l from : ℕ) (so_far : LookedAt ws release l from) where
     -- one more has started
     pub looked_next : (w : ℕ) → l < length ws → w ≡ get_or ws l 0 → (get_or finishes w 0 ≡ 0 → ⊥) → LookedAt ws release (l + 1) (max from (get_or finishes w 0))
@@ -183,24 +179,9 @@ pub record WokenUpTo (f : ℕ → ℕ) (before : List ℕ) (n : ℕ) (wakes : Li
   pub done : EachWakes f n wakes
   pub rest : (j : ℕ) → n ≤ j → get_or wakes j 0 ≡ get_or before j 0
 
-module _ (f : ℕ → ℕ) (before : List ℕ) (n : ℕ) (wakes : List ℕ) (up : WokenUpTo f before n wakes) where
-  pub woken_skip : get_or wakes n 0 ≡ f n → WokenUpTo f before (n + 1) wakes
-  woken_skip e = record { done = below_next (λ j. get_or wakes j 0 ≡ f j) n up.done e; rest = λ j h. up.rest j (omega arith) }
-
-  pub woken_set : (v : ℕ) → n < length wakes → v ≡ f n → WokenUpTo f before (n + 1) (set wakes n v)
-  woken_set v b e =
-      record {
-        done = below_next (λ j. get_or (set wakes n v) j 0 ≡ f j) n (λ j h. get_or-set_other wakes n j v 0 (λ q. omega arith) ∙ up.done j h) (get_or-set_same wakes n v 0 b ∙ e);
-        rest = λ j h. get_or-set_other wakes n j v 0 (λ q. omega arith) ∙ up.rest j (omega arith);
-      }
-
 module _ (js : List Job) (s : Scenario) (finishes before : List ℕ) (i : ℕ) where
   abbrev woken : ℕ → ℕ
   woken = woken_by js s finishes before i
-
-  -- no earlier job waited for job i
-  pub woken_first : WokenUpTo woken before (i + 1) before
-  woken_first = record { done = λ j h. rw (le-ltb i j (omega arith)) refl; rest = λ j h. refl }
 
   pub woken_anew : (j : ℕ) → i < j → get_or before j 0 ≡ asleep + i → woken j ≡ wake_of js s finishes j
   woken_anew j h e = rw (lt-ltb i j h, eq-eqb (get_or before j 0) (asleep + i) e) refl

@@ -5,7 +5,6 @@ ghost use Rattle.dispatch.specs.internal.Choice.{IsFirst, key_of, start_key, IsN
 
 use crate::wakes::ASLEEP;
 use jobs::priority;
-use words::larger;
 
 // So many priorities have keys of their own beside each moment.
 const PRIORITIES: u64 = 4294967296;
@@ -16,12 +15,10 @@ pub fn first_free(cores: &[u32]) -> usize
     ensures { (result < length cores.now) × IsFirst cores.now (length cores.now) result }
 {
     let mut first = 0;
-    let mut c = 1;
-    while c < cores.len() {
+    for c in 1..cores.len() {
         if cores[c] < cores[first] {
             first = c;
         }
-        c += 1;
     }
     first
 }
@@ -33,21 +30,21 @@ fn start_key(t: u32, priority: u32) -> u64
     t as u64 * PRIORITIES + priority as u64
 }
 
-// The job that starts next where a core is free from a moment on: the first to be ready then, and of these the first by priority. Where no job is awake: k.
-pub fn next_job(rows: &[u32], k: usize, wakes: &[u32], from: u32) -> usize
+// The job that starts next where a core is free from a moment on: the first to be ready then, and of these the first by priority. None where no job is awake.
+pub fn next_job(rows: &[u32], k: usize, wakes: &[u32], from: u32) -> Option<usize>
     requires { Rows rows.now k × (k ≤ length wakes.now) }
     ensures { IsNext (key_of (jobs_of_rows rows.now k) wakes.now from) k result }
 {
-    let mut next = k;
-    let mut least = start_key(ASLEEP, 0);
-    let mut j = 0;
-    while j < k {
-        let key = start_key(larger(from, wakes[j]), priority(rows, k, j));
+    // The key itself tells whether one was found: an Option in the loop takes five instructions more for each job.
+    let none = start_key(ASLEEP, 0);
+    let mut next = 0;
+    let mut least = none;
+    for j in 0..k {
+        let key = start_key(from.max(wakes[j]), priority(rows, k, j));
         if key < least {
             least = key;
             next = j;
         }
-        j += 1;
     }
-    next
+    if least < none { Some(next) } else { None }
 }

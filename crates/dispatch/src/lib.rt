@@ -1,6 +1,6 @@
-// The run of one playing, worked out from start to start. A job has the finish time 0 until it starts. Its wake word says from when it is ready: once it is
-// released, its predecessors have finished and its bell has rested. While a predecessor has not started, and once the job itself has, the word is a mark above
-// all times.
+// The run of one playing, worked out from start to start. A job has the finish time 0 until it starts, in place of an Option: the words are the caller's, and
+// no job ends at 0. Its wake word says from when it is ready: once it is released, its predecessors have finished and its bell has rested. While a predecessor
+// has not started, and once the job itself has, the word is a mark above all times.
 #![tactic(auto)]
 
 mod choice;

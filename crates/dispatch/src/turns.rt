@@ -5,9 +5,8 @@ ghost use Rattle.dispatch.specs.internal.Turns.{Dispatchable, Turn, Turned, Over
 use crate::choice::{first_free, next_job};
 use crate::wakes::wake_after;
 use playing::scenario::execution;
-use words::larger;
 
-// The wake word of a job that has started.
+// The wake word of a job that has started. A mark as well, so that a comparison passes it over.
 const STARTED: u32 = 4294967295;
 
 // Starts the next job; false where all have started.
@@ -27,11 +26,10 @@ fn start_next(
 {
     let c = first_free(cores);
     let free = cores[c];
-    let i = next_job(rows, k, wakes, free);
-    if i == k {
+    let Some(i) = next_job(rows, k, wakes, free) else {
         return false;
-    }
-    let start = larger(free, wakes[i]);
+    };
+    let start = free.max(wakes[i]);
     let finish = start + execution(playing, k, i);
     starts[i] = start;
     finishes[i] = finish;
@@ -55,8 +53,5 @@ pub fn start_all(
         × Turn rows.now k playing.now starts.old finishes.old wakes.old cores.old }
     ensures { Over rows.now k (length cores.old) playing.now starts.new finishes.new }
 {
-    let mut more = true;
-    while more {
-        more = start_next(rows, k, playing, starts, finishes, wakes, cores);
-    }
+    while start_next(rows, k, playing, starts, finishes, wakes, cores) {}
 }

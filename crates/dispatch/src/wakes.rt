@@ -6,9 +6,9 @@ ghost use Rattle.dispatch.specs.internal.Wakes.{WorkedOn, wake_of, woken_by, Eac
 
 use jobs::{last_rest, predecessor, predecessor_count};
 use playing::scenario::release;
-use words::larger;
 
 // All times are below. With the number of a predecessor added: the job waits for that one to start.
+// A mark and no enum: the next job is found by the least word, and those that waited by one comparison.
 pub const ASLEEP: u32 = 2147483648;
 
 // The wake word of job j: the latest of its release and the finish times of its predecessors, with the rest for the one before it on its bell, which stands
@@ -19,22 +19,20 @@ fn wake(rows: &[u32], k: usize, playing: &[u8], finishes: &[u32], j: usize) -> u
 {
     let count = predecessor_count(rows, k, j);
     let mut from = release(playing, k, j);
-    let mut l = 0;
-    while l < count {
+    for l in 0..count {
         let w = predecessor(rows, k, j, l);
         let finish = finishes[w];
         if finish == 0 {
             return ASLEEP + w as u32;
         }
-        from = larger(from, finish);
-        l += 1;
+        from = from.max(finish);
     }
     let rest = last_rest(rows, k, j);
     if rest == 0 {
         return from;
     }
     let last = predecessor(rows, k, j, count - 1);
-    larger(from, finishes[last] + rest)
+    from.max(finishes[last] + rest)
 }
 
 // The wake words of all jobs.
@@ -42,10 +40,8 @@ pub fn wake_all(rows: &[u32], k: usize, playing: &[u8], finishes: &[u32], wakes:
     requires { WorkedOn rows.now k playing.now finishes.now × (k ≤ length wakes.old) }
     ensures { EachWakes (wake_of (jobs_of_rows rows.now k) (scenario_in playing.now) finishes.now) k wakes.new }
 {
-    let mut j = 0;
-    while j < k {
+    for j in 0..k {
         wakes[j] = wake(rows, k, playing, finishes, j);
-        j += 1;
     }
 }
 
@@ -63,11 +59,9 @@ pub fn wake_after(
         wakes.new }
 {
     let waited = ASLEEP + i as u32;
-    let mut j = i + 1;
-    while j < k {
+    for j in i + 1..k {
         if wakes[j] == waited {
             wakes[j] = wake(rows, k, playing, finishes, j);
         }
-        j += 1;
     }
 }

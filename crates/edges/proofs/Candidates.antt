@@ -10,17 +10,17 @@ use lib.Bits.{bit_and, bit_or}
 use lib.Count.{count_trailing_zeros, under}
 use lib.Dec.{eqb}
 use lib.ListN.{get_or, length, set, drop, drop_of_length-le}
-use lib.Seq.{drop-cons, get_or-set_same, get_or-set_other}
+use lib.Seq.{drop-cons}
 use borrow.Author.Tests.{eqb-true, eq-eqb, not-true}
 use Rattle.model.specs.Folds.{every, member}
 use Rattle.model.specs.Jobs.{Job, predecessors}
 use Rattle.model.specs.States.{started}
 use Rattle.model.specs.Edges.{candidate}
 use Rattle.model.proofs.Booleans.{cases, and_left, and_right, and_both, or_cases}
-use Rattle.model.proofs.Folds.{every_in, every_out, below_suc}
+use Rattle.model.proofs.Folds.{every_in, every_out}
 use Rattle.states.specs.internal.Slots.{set_of, in_set, state_of}
 use Rattle.states.proofs.Contents.{started_at}
-use Rattle.edges.specs.internal.Edges.{PredecessorSet, PredecessorSets}
+use Rattle.edges.specs.internal.Edges.{PredecessorSet}
 use Rattle.states.proofs.Bits.{in_meet, in_union, in_one, in_half, same_set}
 
 -- ---- the set of a list's elements: each is in the set r, or left in the list from index j on
@@ -40,14 +40,6 @@ module _ (l : List ℕ) (j r : ℕ) (left : (w : ℕ) → member w l ≡ (in_set
 pub joined_below : (i r x : ℕ) → ((w : ℕ) → in_set r w ≡ true → w < i) → x < i → (w : ℕ) → in_set (bit_or r (2 ^ x)) w ≡ true → w < i
 joined_below i r x f h w e =
     ⊎_elim (f w) (λ q. omega (arith, eqb-true w x (sym (in_one x w) ∙ q))) (or_cases (in_set r w) (in_set (2 ^ x) w) (sym (in_union r (2 ^ x) w) ∙ e))
-
--- the sets of the jobs below i, and one more
-pub sets_next : (js : List Job) (i : ℕ) (sets : List ℕ) (r : ℕ) → i < length sets → PredecessorSets js i sets → PredecessorSet js i r
-    → PredecessorSets js (i + 1) (set sets i r)
-sets_next js i sets r h f p =
-    rw add-one
-    (below_suc (λ (n : ℕ). PredecessorSet js n (get_or (set sets i r) n 0)) i (λ n b. rw (get_or-set_other sets i n r 0 (λ e. omega arith)) (f n b))
-    (rw (get_or-set_same sets i r 0 h) p))
 
 -- ---- the jobs that are passed over
 

@@ -22,7 +22,7 @@ use Rattle.model.proofs.Bounds.{bound_up_to}
 use Rattle.model.proofs.Eligibility.{before_suc, min_pos, eligible_in_order, latest_start_is}
 use Rattle.states.specs.internal.Slots.{possibly_at, certainly_at, state_of}
 use Rattle.edges.specs.internal.Edges.{latest_start_time, candidates, no_limit, limit_word, smallest_in, bound_over, start_of, edge_of, edge_in_order}
-use Rattle.edges.specs.declared.Edge.TheVariants.{NotEligible, Starts}
+use Rattle.std.specs.Prelude.{Some, None}
 use Rattle.edges.proofs.Folds.{smallest_listed}
 
 -- ---- the smallest over the listed candidates
@@ -94,11 +94,11 @@ module _ (js : List Job) (σ : State) (i : ℕ) where
   -- for a candidate, the edge by one comparison is that by two
   pub same_edge : candidate js σ i ≡ true → edge_in_order js σ i ≡ edge_of js σ i
   unfolding edge_in_order edge_of
-  same_edge e = ap (λ b. cond b (Starts (start_of js σ i)) NotEligible) (sym (eligible_in_order js σ i e))
+  same_edge e = ap (λ b. cond b (Some (start_of js σ i)) None) (sym (eligible_in_order js σ i e))
 
   module _ (z : ℤ) (l : z ≡ latest_start_z js σ i) where
     -- a job whose latest start is below its earliest has none
-    pub no_edge_found : lt_z z (pos (earliest_start js σ i)) ≡ true → NotEligible ≡ edge_in_order js σ i
+    pub no_edge_found : lt_z z (pos (earliest_start js σ i)) ≡ true → None ≡ edge_in_order js σ i
     unfolding edge_in_order in_order
     no_edge_found h = rw (← l, not_in_order z (earliest_start js σ i) h)
 
@@ -113,7 +113,7 @@ module _ (js : List Job) (σ : State) (i : ℕ) where
 
       -- and it has one, with these moments
       pub edge_found : (s e f : ℕ) → s ≡ earliest_start js σ i → e ≡ s + (job js i).least_execution → f ≡ latest_start js σ i + (job js i).most_execution
-          → Starts (record { job = i; start = s; earliest = e; latest = f }) ≡ edge_in_order js σ i
+          → Some (record { job = i; start = s; earliest = e; latest = f }) ≡ edge_in_order js σ i
       unfolding edge_in_order earliest_finish latest_finish
       edge_found s e f p q r =
           let least : e ≡ earliest_start js σ i + (job js i).least_execution = omega (arith, p, q) in

@@ -1,18 +1,36 @@
--- One turn, and the end, of a loop over a list from its start. Assumes nothing.
-use Prim.Native.Nat.{ℕ, ◌+◌, ◌<◌, ◌≤◌, min, max}
+-- Folds over a list: the largest place by place, and the smallest turn by turn. Assumes nothing.
+use Prim.Native.Nat.{ℕ, zero, suc, ◌+◌, ◌<◌, ◌≤◌, min, max}
 use mathlib.Core.Path.{◌≡◌, refl, sym, ap, ◌∙◌}
 use mathlib.Core.Bool.{Bool, true, false, ◌&&◌, cond}
-use mathlib.Core.List.{List}
+use mathlib.Core.List.{List, map}
 use native.Mathlib.Numerals.{add-one}
 use native.Mathlib.Omega.{arith}
 use lib.ListN.{get_or, length, take, drop, drop_of_length-le}
 use lib.Seq.{drop-cons}
+use Rattle.std.specs.List.{fold, range_with_len}
 use Rattle.model.specs.Folds.{largest, Limit, infinite, finite, smallest}
 use Rattle.model.specs.Folds as folds
 use Rattle.edges.specs.internal.Edges.{list_below, no_limit, limit_word, lower, smallest_in}
 use Rattle.edges.proofs.Listing.{fold_listed, fold_turn}
 
--- ---- the largest: the larger of r and what is left of the n elements, from index j on, is the whole
+-- ---- the largest, place by place
+
+module _ (p : ℕ → Bool) (f : ℕ → ℕ) (l : List ℕ) where
+  -- what one place gives
+  abbrev pub given_at : ℕ → ℕ
+  given_at j = cond (p (get_or l j 0)) (f (get_or l j 0)) 0
+
+  -- over the places from `a` on, of which n are left, it is the larger of a number and of the largest of what is left of the list
+  pub largest_by_place : (r a n : ℕ) → a + n ≡ length l → fold (λ x y. max x y) r (map given_at (range_with_len a n)) ≡ max r (largest p f (drop a l))
+  unfolding largest
+  largest_by_place r a zero e = rw (drop_of_length-le l {i = a} (omega arith)) (omega arith)
+  largest_by_place r a (suc n) e =
+      let here = ap (largest p f) (drop-cons l a 0 (omega arith)) in
+      let x = max r (given_at a) in
+      let rest = largest_by_place x (a + 1) n (omega arith) ∙ ap (λ (b : ℕ). max x (largest p f (drop b l))) (add-one a) in
+      rest ∙ omega (arith, here)
+
+-- ---- the same element by element: the larger of r and what is left of the n elements, from index j on, is the whole
 
 module _ (p : ℕ → Bool) (f : ℕ → ℕ) (l : List ℕ) (whole : ℕ) where
   -- the list has n elements, and r with those from index j on gives the whole

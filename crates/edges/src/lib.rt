@@ -2,7 +2,9 @@
 // steps of source document 004 in its order; numbers in brackets are those of its equations, names such as EST are document 01's.
 #![tactic(auto)]
 
-ghost use Rattle.std.specs.Prelude.{◌≡◌, suc, ◌<◌, ◌≤◌, max, true, not, cond, ◌&&◌, List, eqb, pos, ◌-ℤ◌, length, take};
+mod ends;
+
+ghost use Rattle.std.specs.Prelude.{◌≡◌, suc, ◌<◌, ◌≤◌, max, true, not, cond, ◌&&◌, List, get_or, eqb, pos, ◌-ℤ◌, length, take};
 ghost use Rattle.model.specs.Limits.{most_jobs};
 ghost use Rattle.model.specs.Folds.{every, member};
 ghost use Rattle.model.specs.Jobs.{Job, predecessors};
@@ -14,17 +16,17 @@ ghost use Rattle.jobs.specs.internal.JobRow.{jobs_of_rows, Rows};
 ghost use Rattle.states.specs.internal.Slots.{in_set, state_of};
 ghost use Rattle.edges.specs.internal.Edges.{Readable, PredecessorSet, PredecessorSets, candidates, Prepared, rested_after, no_limit, limit_word, bound_over, Holders, Holding, edge_of, edge_in_order};
 
+use crate::ends::ReadyEnd;
 use jobs::{
     earliest_release, is_predecessor, last_rest, latest_release, least_execution, most_execution,
     precedence, predecessor, predecessor_count,
 };
 use model::limits::MOST_JOBS;
-use states::reading::{earliest_finish, latest_finish, started_set};
+use states::reading::{Earliest, End, Latest, finish, started_set};
 use states::sizes::SET_WORDS;
 use states::starting::JobStart;
-use words::{larger, smaller};
 
-// The word for an infinite limit.
+// The word for an infinite limit. A word and no Option: the smallest moment so far is kept by one `min`, with no test whether there is one.
 const NO_LIMIT: u32 = 4294967295;
 
 // The set of all jobs.
@@ -32,13 +34,6 @@ const ALL_JOBS: u64 = 18446744073709551615;
 
 // Every moment is below this, so that one has room in a word beside a job's place in the order of priority.
 const MOMENTS: u64 = 67108864;
-
-#[derive(Clone, Copy)]
-pub enum Edge {
-    NotEligible,
-    // The job, its earliest start, and its finish times.
-    Starts(JobStart),
-}
 
 // What all edges of a state share: the work-conserving bound, and how many jobs are listed that may hold others back.
 #[derive(Clone, Copy)]
@@ -52,12 +47,9 @@ fn predecessor_set(rows: &[u32], k: usize, i: usize) -> u64
     requires { (i < k) × (k ≤ most_jobs) × Rows rows.now k }
     ensures { PredecessorSet (jobs_of_rows rows.now k) i result }
 {
-    let n = predecessor_count(rows, k, i);
     let mut set = 0;
-    let mut j = 0;
-    while j < n {
-        set = set | (1u64 << predecessor(rows, k, i, j));
-        j += 1;
+    for j in 0..predecessor_count(rows, k, i) {
+        set |= 1u64 << predecessor(rows, k, i, j);
     }
     set
 }
@@ -67,10 +59,8 @@ pub fn write_predecessor_sets(rows: &[u32], k: usize, sets: &mut [u64])
     requires { Rows rows.now k × (k ≤ most_jobs) × (k ≤ length sets.old) }
     ensures { PredecessorSets (jobs_of_rows rows.now k) k sets.new }
 {
-    let mut i = 0;
-    while i < k {
-        sets[i] = predecessor_set(rows, k, i);
-        i += 1;
+    for (i, set) in sets[..k].iter_mut().enumerate() {
+        *set = predecessor_set(rows, k, i);
     }
 }
 
@@ -91,71 +81,54 @@ pub fn list_candidates(sets: &[u64], k: usize, s: &[u32], m: usize, list: &mut [
         → take result list.new ≡ candidates js (state_of m k s.now) k) }
 {
     let set = started_set(s);
+    let first = u64::trailing_zeros(ALL_JOBS - set) as usize;
     let mut n = 0;
-    let mut j = u64::trailing_zeros(ALL_JOBS - set) as usize;
-    while j < k {
+    // Each job is written, and stays if it is a candidate: no branch.
+    for j in first..k {
         list[n] = j as u8;
         n += is_candidate(set, sets[j], j) as usize;
-        j += 1;
     }
     n
 }
 
-// From when on the bell of job i has possibly rested: the earliest finish of the job before it on the bell, its last predecessor, and the rest. 0 where it has
-// not to rest.
-fn possibly_rested(rows: &[u32], k: usize, s: &[u32], m: usize, i: usize) -> u32
+// The finish time of the predecessor at place j of job i, by one end of the finish ranges.
+fn predecessor_finish<E: End>(
+    rows: &[u32],
+    k: usize,
+    s: &[u32],
+    m: usize,
+    i: usize,
+    j: usize,
+) -> u32
+    requires { (i < k) × (j < length (predecessors (jobs_of_rows rows.now k) i)) × Readable rows.now k s.now m }
+    ensures { result ≡ E.of (finish_of (state_of m k s.now) (get_or (predecessors (jobs_of_rows rows.now k) i) j 0)) }
+{
+    finish::<E>(s, m, k, predecessor(rows, k, i, j))
+}
+
+// From when on the bell of job i has rested, by one end of the finish times (possibly or certainly): that of the job before it on the bell, its last
+// predecessor, and the rest. 0 where it has not to rest.
+fn rested<E: ReadyEnd>(rows: &[u32], k: usize, s: &[u32], m: usize, i: usize) -> u32
     requires { (i < k) × Readable rows.now k s.now m }
-    ensures { result ≡ rested_after (jobs_of_rows rows.now k) i (λ w. earliest (finish_of (state_of m k s.now) w)) }
+    ensures { result ≡ rested_after (jobs_of_rows rows.now k) i (λ w. E.of (finish_of (state_of m k s.now) w)) }
 {
     let rest = last_rest(rows, k, i);
     if rest == 0 {
         return 0;
     }
     let last = predecessor_count(rows, k, i) - 1;
-    earliest_finish(s, m, k, predecessor(rows, k, i, last)) + rest
+    predecessor_finish::<E>(rows, k, s, m, i, last) + rest
 }
 
-// From when on it has certainly rested: the same by the latest finish.
-fn certainly_rested(rows: &[u32], k: usize, s: &[u32], m: usize, i: usize) -> u32
+// (2), (3) Rmin and Rmax, from when on job i is possibly and certainly ready. Every wait counts as without a rest; then the last, if it has one, with it.
+fn ready<E: ReadyEnd>(rows: &[u32], k: usize, s: &[u32], m: usize, i: usize) -> u32
     requires { (i < k) × Readable rows.now k s.now m }
-    ensures { result ≡ rested_after (jobs_of_rows rows.now k) i (λ w. latest (finish_of (state_of m k s.now) w)) }
+    ensures { result ≡ E.readied (jobs_of_rows rows.now k) (state_of m k s.now) i }
 {
-    let rest = last_rest(rows, k, i);
-    if rest == 0 {
-        return 0;
-    }
-    let last = predecessor_count(rows, k, i) - 1;
-    latest_finish(s, m, k, predecessor(rows, k, i, last)) + rest
-}
-
-// (2) Rmin, from when on job i is possibly ready. Every wait counts as without a rest; then the last, if it has one, with it.
-fn possibly_ready(rows: &[u32], k: usize, s: &[u32], m: usize, i: usize) -> u32
-    requires { (i < k) × Readable rows.now k s.now m }
-    ensures { result ≡ possibly_ready (jobs_of_rows rows.now k) (state_of m k s.now) i }
-{
-    let n = predecessor_count(rows, k, i);
-    let mut ready = earliest_release(rows, k, i);
-    let mut j = 0;
-    while j < n {
-        ready = larger(ready, earliest_finish(s, m, k, predecessor(rows, k, i, j)));
-        j += 1;
-    }
-    larger(ready, possibly_rested(rows, k, s, m, i))
-}
-
-// (3) Rmax, from when on job i is certainly ready; the waits count likewise.
-fn certainly_ready(rows: &[u32], k: usize, s: &[u32], m: usize, i: usize) -> u32
-    requires { (i < k) × Readable rows.now k s.now m }
-    ensures { result ≡ certainly_ready (jobs_of_rows rows.now k) (state_of m k s.now) i }
-{
-    let n = predecessor_count(rows, k, i);
-    let mut ready = latest_release(rows, k, i);
-    let mut j = 0;
-    while j < n {
-        ready = larger(ready, latest_finish(s, m, k, predecessor(rows, k, i, j)));
-        j += 1;
-    }
-    larger(ready, certainly_rested(rows, k, s, m, i))
+    (0..predecessor_count(rows, k, i))
+        .map(|j| predecessor_finish::<E>(rows, k, s, m, i, j))
+        .fold(E::release(rows, k, i), u32::max)
+        .max(rested::<E>(rows, k, s, m, i))
 }
 
 // The latest finish of job w, if it is no predecessor of job i; those have finished once i is ready.
@@ -167,7 +140,7 @@ fn latest_finish_beside(rows: &[u32], k: usize, s: &[u32], m: usize, i: usize, w
     if is_predecessor(rows, k, i, w) {
         return 0;
     }
-    latest_finish(s, m, k, w)
+    finish::<Latest>(s, m, k, w)
 }
 
 // (6) From when on job j is certainly ready where another job i is ready: the larger of rb and the F of those waits of j that are not waits of i. The last wait
@@ -176,17 +149,10 @@ fn certainly_ready_beside(rows: &[u32], k: usize, s: &[u32], m: usize, i: usize,
     requires { (i < k) × (j < k) × Readable rows.now k s.now m × (i ≡ j → ⊥) }
     ensures { result ≡ certainly_ready_beside (jobs_of_rows rows.now k) (state_of m k s.now) i j }
 {
-    let n = predecessor_count(rows, k, j);
-    let mut ready = latest_release(rows, k, j);
-    let mut h = 0;
-    while h < n {
-        ready = larger(
-            ready,
-            latest_finish_beside(rows, k, s, m, i, predecessor(rows, k, j, h)),
-        );
-        h += 1;
-    }
-    larger(ready, certainly_rested(rows, k, s, m, j))
+    (0..predecessor_count(rows, k, j))
+        .map(|h| latest_finish_beside(rows, k, s, m, i, predecessor(rows, k, j, h)))
+        .fold(latest_release(rows, k, j), u32::max)
+        .max(rested::<Latest>(rows, k, s, m, j))
 }
 
 // (7) twc: the larger of when a core is certainly free and of when the first candidate is certainly ready, if there is any.
@@ -196,7 +162,7 @@ fn bound_of(free: u32, first: u32) -> u32
     if first == NO_LIMIT {
         return free;
     }
-    larger(free, first)
+    free.max(first)
 }
 
 // (7) twc, the work-conserving bound; and for (5) the candidates that may hold another back before it, each in a word: its place in the order of priority, and
@@ -219,14 +185,12 @@ pub fn survey(
     let free = s[SET_WORDS + m];
     let mut first = NO_LIMIT;
     let mut n = 0;
-    let mut t = 0;
-    while t < list.len() {
-        let j = list[t] as usize;
-        let ready = certainly_ready(rows, k, s, m, j);
-        first = smaller(first, ready);
+    for listed in list {
+        let j = *listed as usize;
+        let ready = ready::<Latest>(rows, k, s, m, j);
+        first = first.min(ready);
         holders[n] = precedence(rows, k, j) * MOMENTS + ready as u64;
-        n += (latest_release(rows, k, j) <= larger(free, first)) as usize;
-        t += 1;
+        n += (latest_release(rows, k, j) <= free.max(first)) as usize;
     }
     Surveyed {
         bound: bound_of(free, first),
@@ -272,15 +236,13 @@ fn higher_priority_bound(
 {
     let own = precedence(rows, k, i);
     let mut first = NO_LIMIT;
-    let mut t = 0;
-    while t < holders.len() {
-        let place = holders[t] / MOMENTS;
+    for holder in holders {
+        let place = *holder / MOMENTS;
         if place < own {
             let j = (place % MOST_JOBS as u64) as usize;
-            let ready = (holders[t] % MOMENTS) as u32;
-            first = smaller(first, certainly_ready_for(rows, k, s, m, sets, i, j, ready));
+            let ready = (*holder % MOMENTS) as u32;
+            first = first.min(certainly_ready_for(rows, k, s, m, sets, i, j, ready));
         }
-        t += 1;
     }
     first
 }
@@ -290,7 +252,7 @@ fn earliest_start(rows: &[u32], k: usize, s: &[u32], m: usize, i: usize) -> u32
     requires { (i < k) × Readable rows.now k s.now m }
     ensures { result ≡ earliest_start (jobs_of_rows rows.now k) (state_of m k s.now) i }
 {
-    larger(s[SET_WORDS], possibly_ready(rows, k, s, m, i))
+    s[SET_WORDS].max(ready::<Earliest>(rows, k, s, m, i))
 }
 
 // (8) LST, the smaller of twc and of the moment before thigh. The moment before 0 is -1.
@@ -300,10 +262,10 @@ fn latest_start(bound: u32, higher: u32) -> i64
     if higher == 0 {
         return -1;
     }
-    smaller(bound, higher - 1) as i64
+    bound.min(higher - 1) as i64
 }
 
-// Whether candidate i may go next, and then its edge.
+// The edge of candidate i, if it may go next: its job, its earliest start, and its finish times. None where it is not eligible.
 pub fn edge_of(
     rows: &[u32],
     k: usize,
@@ -313,7 +275,7 @@ pub fn edge_of(
     holders: &[u64],
     bound: u32,
     i: usize,
-) -> Edge
+) -> Option<JobStart>
     requires i_lt_k { (i < k) × Readable rows.now k s.now m × (k ≤ length sets.now) × PredecessorSets (jobs_of_rows rows.now k) k sets.now }
     requires i_value { (candidate (jobs_of_rows rows.now k) (state_of m k s.now) i ≡ true)
         × (bound ≡ work_conserving_bound (jobs_of_rows rows.now k) (state_of m k s.now))
@@ -329,13 +291,13 @@ pub fn edge_of(
     let latest = latest_start(bound, higher);
     // (9) The job is eligible exactly if EST is at most LST.
     if latest < earliest as i64 {
-        return Edge::NotEligible;
+        return None;
     }
     // (10), (11) The edge ends E and F.
     let last = latest as u32;
     let e = earliest + least_execution(rows, k, i);
     let f = last + most_execution(rows, k, i);
-    Edge::Starts(JobStart {
+    Some(JobStart {
         job: i,
         start: earliest,
         earliest: e,

@@ -1,5 +1,5 @@
 -- Laws of numbers and fields put into bytes.
-pub mod Halves
+pub mod ByBytes
 pub mod Fields
 pub mod Versioned
 pub mod Listed

@@ -1,11 +1,11 @@
 -- The jobs that a note lists, put into bytes one after the other. Assumes nothing.
 use Prim.Native.Nat.{ℕ, zero, suc, ◌+◌, ◌-◌, ◌≤◌, ◌<◌}
-use mathlib.Core.Path.{◌≡◌, ap, ◌∙◌}
+use mathlib.Core.Path.{◌≡◌, ◌∙◌}
 use mathlib.Core.List.{List, [], ◌∷◌}
 use native.Mathlib.Nat.{add-zero, sub-zero}
 use native.Mathlib.Omega.{arith}
 use lib.ListN.{length, get_or, take, drop, replicate}
-use lib.Seq.{length-take-le, get_or-take, drop-cons}
+use lib.Seq.{length-take-le, drop-cons}
 use Rattle.words.specs.internal.Placed.{placed}
 use Rattle.format.specs.Bytes.{digits, fields_file}
 use Rattle.format.specs.Fits.{FieldsFit}
@@ -13,15 +13,11 @@ use Rattle.format.proofs.Fields.{total_same}
 use Rattle.encoding.proofs.Fields.{puts, puts_placed}
 
 -- Fields that fit a byte each are bytes.
-fits_byte : (k : ℕ) (vs : List ℕ) → FieldsFit (replicate k 1) vs → (i : ℕ) → i < k → get_or vs i 0 < 256
+pub fits_byte : (k : ℕ) (vs : List ℕ) → FieldsFit (replicate k 1) vs → (i : ℕ) → i < k → get_or vs i 0 < 256
 fits_byte zero vs f i h = absurd (omega arith)
 fits_byte (suc k) [] f i h = absurd f
 fits_byte (suc k) (v ∷ vs) f zero h = f.0
 fits_byte (suc k) (v ∷ vs) f (suc i) h = fits_byte k vs f.1 i (omega arith)
-
--- A job listed fits its byte.
-pub job_small : (jobs : List ℕ) (count : ℕ) → FieldsFit (replicate count 1) (take count jobs) → (i : ℕ) → i < count → get_or jobs i 0 < 256
-job_small jobs count f i h = omega (arith, fits_byte count (take count jobs) f i h, get_or-take count jobs i 0 h)
 
 -- the bytes once the jobs from job i on are put too
 abbrev pub rest : List ℕ → ℕ → ℕ → List ℕ → ℕ → List ℕ
@@ -37,19 +33,12 @@ module _ (jobs : List ℕ) (count at : ℕ) (part : List ℕ) where
 
   -- The next job is put, and then those after it.
   pub rest_next : (i : ℕ) → i < count → count ≤ length jobs
-      → rest jobs count at part i ≡ rest jobs count at (placed part (at + i) (digits 1 (get_or jobs i 0))) (i + 1)
+      → rest jobs count at part i ≡ rest jobs count at (placed part (at + i) (digits 1 (get_or (take count jobs) i 0))) (i + 1)
   rest_next i g h =
       let l : List ℕ = take count jobs in
       let first : drop i l ≡ get_or l i 0 ∷ drop (suc i) l = drop-cons l i 0 (omega (arith, length-take-le count jobs h)) in
-      let job : get_or l i 0 ≡ get_or jobs i 0 = get_or-take count jobs i 0 g in
       let more : count - i ≡ suc (count - (i + 1)) = omega arith in
       let next : suc i ≡ i + 1 = omega arith in
       let place : at + i + 1 ≡ at + (i + 1) = omega arith in
       (λ j. puts part (at + i) (replicate (more j) 1) (first j))
-      ∙ (λ j. puts (placed part (at + i) (digits 1 (job j))) (place j) (replicate (count - (i + 1)) 1) (drop (next j) l))
-
-  -- After the last job nothing is left.
-  pub rest_none : (i : ℕ) → count ≤ i → rest jobs count at part i ≡ part
-  rest_none i g =
-      let none : count - i ≡ 0 = omega arith in
-      ap (λ (k : ℕ). puts part (at + i) (replicate k 1) (drop i (take count jobs))) none
+      ∙ (λ j. puts (placed part (at + i) (digits 1 (get_or l i 0))) (place j) (replicate (count - (i + 1)) 1) (drop (next j) l))

@@ -3,7 +3,6 @@ ghost use Rattle.std.specs.Prelude.{◌≡◌, length};
 ghost use Rattle.format.specs.Layout.{bell_bytes, bell_widths};
 ghost use Rattle.format.specs.Fits.{FieldsFit};
 ghost use Rattle.format.specs.Writing.{bell_fields, bell_file};
-ghost use Rattle.format.specs.internal.Sized.{Sized};
 ghost use Rattle.fields.specs.internal.Layouts.{layout_of};
 ghost use Rattle.rows.specs.BellRow.{bell_words, bell_of_row};
 
@@ -15,7 +14,7 @@ use rows::bell::{LEAST_EXECUTION, MOST_EXECUTION, PRIORITY, REST, TRANSPOSITION,
 
 // The record of the bell of a row, whose fields fit their bytes.
 pub fn put_bell(row: &[u32], l: Layout, part: &mut [u8])
-    requires { Sized (layout_of l) × (length row.now ≡ bell_words) × (length part.old ≡ bell_bytes (layout_of l))
+    requires { (length row.now ≡ bell_words) × (length part.old ≡ bell_bytes (layout_of l))
         × FieldsFit (bell_widths (layout_of l)) (bell_fields (bell_of_row row.now)) }
     ensures { part.new ≡ bell_file (layout_of l) (bell_of_row row.now) }
 {

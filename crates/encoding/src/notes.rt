@@ -13,7 +13,6 @@ use fields::layout::{
     NOTE_BYTES,
 };
 use rows::note::{DEADLINE, EARLIEST_RELEASE, KEY, LATEST_RELEASE, LISTED, LISTED_COUNT};
-use words::smaller;
 
 // The first `count` jobs of a list, a byte each, after the deadline.
 fn put_listed(jobs: &[u32], count: usize, part: &mut [u8])
@@ -22,10 +21,8 @@ fn put_listed(jobs: &[u32], count: usize, part: &mut [u8])
     ensures { part.new
         ≡ placed part.old (1 + note_bytes) (fields_file (replicate count 1) (take count jobs.now)) }
 {
-    let mut i = 0;
-    while i < count {
-        put_8(part, LISTED_AT + i, jobs[i]);
-        i += 1;
+    for (i, job) in jobs[..count].iter().enumerate() {
+        put_8(part, LISTED_AT + i, *job);
     }
 }
 
@@ -43,6 +40,6 @@ pub fn put_note(row: &[u32], part: &mut [u8])
     put_32(part, LATEST_RELEASE_AT, row[LATEST_RELEASE]);
     put_32(part, DEADLINE_AT, row[DEADLINE]);
     // The count is at most four already; said here too, it lets the compiler unroll the loop.
-    let listed = smaller(count, MOST_LISTED) as usize;
+    let listed = count.min(MOST_LISTED) as usize;
     put_listed(&row[LISTED..], listed, part);
 }

@@ -15,14 +15,12 @@ pub fn put_16(part: &mut [u8], at: usize, x: u32)
     requires { (at + 2 ≤ length part.old) × (x < 65536) }
     ensures { part.new ≡ placed part.old at (digits 2 x) }
 {
-    put_8(part, at, x / 256);
-    put_8(part, at + 1, x % 256);
+    part[at..at + 2].copy_from_slice(&(x as u16).to_be_bytes());
 }
 
 pub fn put_32(part: &mut [u8], at: usize, x: u32)
     requires { at + 4 ≤ length part.old }
     ensures { part.new ≡ placed part.old at (digits 4 x) }
 {
-    put_16(part, at, x / 65536);
-    put_16(part, at + 2, x % 65536);
+    part[at..at + 4].copy_from_slice(&x.to_be_bytes());
 }

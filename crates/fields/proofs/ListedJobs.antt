@@ -3,7 +3,9 @@ use Prim.Native.Nat.{ℕ, ◌+◌, ◌-◌, ◌≤◌, ◌<◌}
 use mathlib.Core.Path.{◌≡◌, sym, ap, ◌∙◌}
 use mathlib.Core.List.{List}
 use native.Mathlib.Omega.{arith}
-use lib.ListN.{length, get_or}
+use lib.ListN.{length, get_or, take, drop, length-drop}
+use lib.Seq.{length-take-le, get_or-take}
+use Rattle.std.proofs.lemmas.List.{ext_get_or, get_or-drop}
 use Rattle.format.specs.Bytes.{number}
 use Rattle.format.specs.Layout.{first, note_bytes, most_listed}
 use Rattle.format.specs.Reading.{note_in}
@@ -40,14 +42,12 @@ module _ (p : List ℕ) (x : WholeNote p) where
   pub listed_job : (j : ℕ) → j < length (listed_in p) → get_or (listed_in p) j 0 ≡ number 1 (listed_at + j) p
   listed_job j h = listed_at_holds p j (omega (arith, listed_length p)) ∙ sym (number_one (listed_at + j) p)
 
-  -- ---- the byte at a place
-  module _ (at : ℕ) (g : listed_at ≤ at) (h : at < number 1 0 p + 1) where
-    -- It is that of a job listed.
-    pub job_less : at - listed_at < length (listed_in p)
-    job_less = omega (arith, listed_count_holds)
-
-    -- It is the job.
-    pub job_at_holds : get_or (listed_in p) (at - listed_at) 0 ≡ number 1 at p
-    job_at_holds =
-        let place : listed_at + (at - listed_at) ≡ at = omega arith in
-        listed_job (at - listed_at) job_less ∙ ap (λ (k : ℕ). number 1 k p) place
+  -- They are these bytes of the record.
+  pub listed_is : listed_in p ≡ take (number 1 0 p - note_bytes) (drop listed_at p)
+  listed_is =
+      let n : ℕ = number 1 0 p - note_bytes in
+      let bytes : length (take n (drop listed_at p)) ≡ n = length-take-le n (drop listed_at p) (omega (arith, x.whole, length-drop listed_at p)) in
+      ext_get_or 0 (listed_in p) (take n (drop listed_at p)) (listed_count_holds ∙ sym bytes) (λ j h.
+      listed_job j h
+      ∙ number_one (listed_at + j) p
+      ∙ sym (get_or-take n (drop listed_at p) j 0 (omega (arith, listed_count_holds)) ∙ get_or-drop listed_at p j 0))

@@ -2,3 +2,4 @@
 pub mod BellWith
 pub mod Layouts
 pub mod NoteRecord
+pub mod Numbers

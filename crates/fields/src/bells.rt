@@ -4,7 +4,6 @@ ghost use Rattle.format.specs.Layout.{bell_bytes};
 ghost use Rattle.format.specs.Phrase.{sounding};
 ghost use Rattle.format.specs.Rules.{bell_in_range};
 ghost use Rattle.format.specs.Reading.{bell_in};
-ghost use Rattle.format.specs.internal.Sized.{Sized};
 ghost use Rattle.rows.specs.BellRow.{bell_words, bell_row};
 ghost use Rattle.fields.specs.internal.Layouts.{layout_of};
 
@@ -19,7 +18,7 @@ use rows::bell::{
 
 // The rest: 0 where the version has none.
 fn rest_in(part: &[u8], l: Layout) -> u32
-    requires { Sized (layout_of l) × (bell_bytes (layout_of l) ≤ length part.now) }
+    requires { (bell_bytes (layout_of l) ≤ length part.now) }
     ensures { result ≡ (bell_in (layout_of l) part.now).rest }
 {
     if l.rest == 0 {
@@ -30,7 +29,7 @@ fn rest_in(part: &[u8], l: Layout) -> u32
 
 // The priority, which stands after the rest.
 fn priority_in(part: &[u8], l: Layout) -> u32
-    requires { Sized (layout_of l) × (bell_bytes (layout_of l) ≤ length part.now) }
+    requires { (bell_bytes (layout_of l) ≤ length part.now) }
     ensures { result ≡ (bell_in (layout_of l) part.now).priority }
 {
     byte(part, REST_AT + l.rest)
@@ -46,7 +45,7 @@ pub fn sounding_key(part: &[u8], l: Layout) -> u32
 
 // Whether every field of the bell is in its range.
 pub fn is_in_range(part: &[u8], l: Layout) -> bool
-    requires { Sized (layout_of l) × (bell_bytes (layout_of l) ≤ length part.now) }
+    requires { (bell_bytes (layout_of l) ≤ length part.now) }
     ensures { result ≡ bell_in_range (layout_of l) (bell_in (layout_of l) part.now) }
 {
     is_bell(
@@ -62,7 +61,7 @@ pub fn is_in_range(part: &[u8], l: Layout) -> bool
 
 // The bell's row; `key` is the one that it sounds for.
 pub fn write_bell(part: &[u8], l: Layout, key: u32, row: &mut [u32])
-    requires { Sized (layout_of l) × (bell_bytes (layout_of l) ≤ length part.now) × (key ≡ sounding (bell_in (layout_of l) part.now))
+    requires { (bell_bytes (layout_of l) ≤ length part.now) × (key ≡ sounding (bell_in (layout_of l) part.now))
         × (length row.old ≡ bell_words) }
     ensures { row.new ≡ bell_row (bell_in (layout_of l) part.now) }
 {

@@ -7,23 +7,19 @@ pub fn byte(part: &[u8], at: usize) -> u32
     requires { at < length part.now }
     ensures { (result ≡ number 1 at part.now) × (result < 256) }
 {
-    part[at] as u32
+    u32::from(part[at])
 }
 
 pub fn be_16(part: &[u8], at: usize) -> u32
     requires { at + 2 ≤ length part.now }
     ensures { (result ≡ number 2 at part.now) × (result < 65536) }
 {
-    let high = byte(part, at);
-    let low = byte(part, at + 1);
-    high * 256 + low
+    u32::from(u16::from_be_bytes([part[at], part[at + 1]]))
 }
 
 pub fn be_32(part: &[u8], at: usize) -> u32
     requires { at + 4 ≤ length part.now }
     ensures { result ≡ number 4 at part.now }
 {
-    let high = be_16(part, at);
-    let low = be_16(part, at + 2);
-    high * 65536 + low
+    u32::from_be_bytes([part[at], part[at + 1], part[at + 2], part[at + 3]])
 }

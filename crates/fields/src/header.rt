@@ -2,7 +2,6 @@
 ghost use Rattle.std.specs.Prelude.{◌≡◌, ◌+◌, ◌≤◌, ◌<◌, length};
 ghost use Rattle.format.specs.Layout.{shift_at};
 ghost use Rattle.format.specs.Reading.{shift_in};
-ghost use Rattle.format.specs.internal.Sized.{Sized};
 ghost use Rattle.fields.specs.internal.Layouts.{layout_of};
 
 use crate::bytes::byte;
@@ -10,7 +9,7 @@ use crate::layout::{Layout, SHIFT_AT};
 
 // 0 where the version has none.
 pub fn shift_in(file: &[u8], l: Layout) -> u32
-    requires { Sized (layout_of l) × (shift_at + l.shift ≤ length file.now) }
+    requires { (shift_at + l.shift ≤ length file.now) }
     ensures { (result ≡ shift_in (layout_of l) file.now) × (result < 256) }
 {
     if l.shift == 0 {

@@ -2,14 +2,14 @@
 // all of them.
 ghost use Rattle.std.specs.Prelude.{◌≡◌, true, ◌≤◌};
 ghost use Rattle.format.specs.Layout.{is_version, layout, bell_count_at, bells_at, bell_bytes, note_count_at, most_bells};
-ghost use Rattle.format.specs.internal.Sized.{Sized};
-ghost use Rattle.fields.specs.internal.Layouts.{layout_of};
 
 // The widths of what not every version has: 0 where it has none.
 #[derive(Clone, Copy)]
 pub struct Layout {
     pub shift: usize,
     pub rest: usize,
+    pub ghost shift_fits: { shift ≤ 1 },
+    pub ghost rest_fits: { (rest ≡ 0 → ⊥) → rest ≡ 2 },
 }
 
 // The last version; the first is 1.
@@ -62,39 +62,40 @@ pub const NOTE_BYTES: u32 = 13;
 
 pub const MOST_LISTED: u32 = 4;
 
-// The layout of a version.
-pub fn layout_of(version: u32) -> Layout
-    requires { is_version version ≡ true }
-    ensures { layout_of result ≡ layout version }
-{
-    LAYOUTS[(version - 1) as usize]
-}
+impl Layout {
+    ghost use Rattle.fields.specs.internal.Layouts.{layout_of};
 
-pub fn bell_count_at(l: Layout) -> usize
-    requires { Sized (layout_of l) }
-    ensures { result ≡ bell_count_at (layout_of l) }
-{
-    SHIFT_AT + l.shift
-}
+    // The layout of a version.
+    pub fn of(version: u32) -> Layout
+        requires { is_version version ≡ true }
+        ensures { layout_of result ≡ layout version }
+    {
+        LAYOUTS[(version - 1) as usize]
+    }
 
-pub fn bells_at(l: Layout) -> usize
-    requires { Sized (layout_of l) }
-    ensures { result ≡ bells_at (layout_of l) }
-{
-    bell_count_at(l) + 1
-}
+    pub fn bell_count_at(self) -> usize
+        ensures { result ≡ bell_count_at (layout_of self) }
+    {
+        SHIFT_AT + self.shift
+    }
 
-pub fn bell_bytes(l: Layout) -> usize
-    requires { Sized (layout_of l) }
-    ensures { result ≡ bell_bytes (layout_of l) }
-{
-    BELL_BYTES + l.rest
-}
+    pub fn bells_at(self) -> usize
+        ensures { result ≡ bells_at (layout_of self) }
+    {
+        self.bell_count_at() + 1
+    }
 
-// Where the note count stands, after n bells.
-pub fn note_count_at(l: Layout, n: usize) -> usize
-    requires { Sized (layout_of l) × (n ≤ most_bells) }
-    ensures { result ≡ note_count_at (layout_of l) n }
-{
-    bells_at(l) + n * bell_bytes(l)
+    pub fn bell_bytes(self) -> usize
+        ensures { result ≡ bell_bytes (layout_of self) }
+    {
+        BELL_BYTES + self.rest
+    }
+
+    // Where the note count stands, after n bells.
+    pub fn note_count_at(self, n: usize) -> usize
+        requires { (n ≤ most_bells) }
+        ensures { result ≡ note_count_at (layout_of self) n }
+    {
+        self.bells_at() + n * self.bell_bytes()
+    }
 }

@@ -1,10 +1,11 @@
 // The fields of a note record: tested, and written to a row.
-ghost use Rattle.std.specs.Prelude.{◌≡◌, ◌+◌, ◌≤◌, ◌<◌, length, get_or};
+ghost use Rattle.std.specs.Prelude.{◌≡◌, ℕ, List, ◌+◌, ◌≤◌, ◌<◌, length, get_or};
 ghost use Rattle.format.specs.Layout.{first, most_listed, is_note_length};
 ghost use Rattle.format.specs.Rules.{rises};
 ghost use Rattle.format.specs.Reading.{note_in};
 ghost use Rattle.rows.specs.NoteRow.{note_words, note_row_on};
 ghost use Rattle.fields.specs.internal.NoteRecord.{WholeNote};
+ghost use Rattle.fields.specs.internal.Numbers.{AreNumbers};
 
 use crate::bytes::{be_32, byte};
 use crate::layout::{
@@ -41,16 +42,22 @@ fn listed_job(part: &[u8], j: usize) -> u32
     byte(part, LISTED_AT + j)
 }
 
-// Whether the listed jobs rise and stay below the note's own.
-pub fn do_rise(part: &[u8], own: u32) -> bool
+// The jobs that the note lists.
+pub fn listed_jobs(part: &[u8]) -> &[u8]
     requires { WholeNote part.now }
-    ensures { result ≡ rises own 0 (note_in first part.now).listed }
+    ensures { result.now ≡ (note_in first part.now).listed }
 {
     let end = byte(part, LENGTH_AT) as usize + 1;
+    &part[LISTED_AT..end]
+}
+
+// Whether the jobs rise and stay below the note's own.
+pub fn do_rise<T: Copy + Into<u32>>(jobs: &[T], own: u32) -> bool
+    ensures { (numbers : List ℕ) → AreNumbers T.converts jobs.now numbers → result ≡ rises own 0 numbers }
+{
     let mut low = 0;
-    let mut at = LISTED_AT;
-    while at < end {
-        let job = byte(part, at);
+    for &listed in jobs {
+        let job: u32 = listed.into();
         if job < low {
             return false;
         }
@@ -58,7 +65,6 @@ pub fn do_rise(part: &[u8], own: u32) -> bool
             return false;
         }
         low = job + 1;
-        at += 1;
     }
     true
 }

@@ -3,7 +3,6 @@ ghost use Rattle.std.specs.Prelude.{◌≡◌, ◌<◌};
 ghost use Rattle.format.specs.Bytes.{within};
 ghost use Rattle.format.specs.Phrase.{transposed};
 ghost use Rattle.format.specs.Rules.{is_transposition, is_shift, is_execution_range, is_rest, bell_in_range, are_times};
-ghost use Rattle.format.specs.internal.Sized.{Sized};
 ghost use Rattle.fields.specs.internal.BellWith.{bell_with};
 ghost use Rattle.fields.specs.internal.Layouts.{layout_of};
 
@@ -31,7 +30,6 @@ fn is_transposition(t: u32) -> bool
 
 // The shift of a phrase: 0 where the version has none.
 pub fn is_shift(l: Layout, shift: u32) -> bool
-    requires { Sized (layout_of l) }
     ensures { result ≡ is_shift (layout_of l) shift }
 {
     if l.shift == 0 {
@@ -54,7 +52,6 @@ fn is_execution_range(least: u32, most: u32) -> bool
 
 // The rest of a bell: 0 where the version has none.
 fn is_rest(l: Layout, rest: u32) -> bool
-    requires { Sized (layout_of l) }
     ensures { result ≡ is_rest (layout_of l) rest }
 {
     if l.rest == 0 {
@@ -71,10 +68,7 @@ pub fn transposed(written: u32, transposition: u32) -> u32
     if transposition < 128 {
         return written + transposition;
     }
-    if written + transposition < 256 {
-        return 0;
-    }
-    written + transposition - 256
+    (written + transposition).saturating_sub(256)
 }
 
 // Whether every field of a bell is in its range.
@@ -87,7 +81,6 @@ pub fn is_bell(
     rest: u32,
     priority: u32,
 ) -> bool
-    requires { Sized (layout_of l) }
     ensures { result ≡ bell_in_range (layout_of l) (bell_with written transposition least most rest priority) }
 {
     if !is_within(LOWEST_KEY, HIGHEST_KEY, written) {

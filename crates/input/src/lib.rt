@@ -6,7 +6,8 @@ ghost use Rattle.std.specs.Prelude.{◌≤◌, length, IfOk};
 use std::io;
 use std::io::Read;
 
-// Reads standard input until the buffer is full or the input ends; answers how many bytes were read.
+// Reads standard input until the buffer is full or the input ends; answers how many bytes were read. Written by hand, for std's
+// `read_to_end` and `copy` would take a Vec, which is on the heap, or a second buffer.
 pub fn read_full(rt: &impl Input, buffer: &mut [u8]) -> io::Result<usize>
     ensures { IfOk result (λ n. n ≤ length buffer.new) }
 {
@@ -15,7 +16,7 @@ pub fn read_full(rt: &impl Input, buffer: &mut [u8]) -> io::Result<usize>
     while n < buffer.len() {
         let more = reader.read(&mut buffer[n..])?;
         if more == 0 {
-            return Ok(n);
+            break;
         }
         n += more;
     }

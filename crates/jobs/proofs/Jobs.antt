@@ -1,7 +1,7 @@
 -- What the rows say of a job and of its predecessors. Assumes nothing.
-use Prim.Native.Nat.{ℕ, ◌+◌, ◌*◌, ◌<◌, ◌≤◌}
-use mathlib.Core.Path.{◌≡◌, ap, ◌∙◌}
-use mathlib.Core.Bool.{◌||◌, true, false}
+use Prim.Native.Nat.{ℕ, zero, suc, ◌+◌, ◌*◌, ◌<◌}
+use mathlib.Core.Path.{◌≡◌, refl, ap, ◌∙◌}
+use mathlib.Core.Bool.{Bool, ◌||◌}
 use mathlib.Core.List.{List}
 use native.Mathlib.Nat.{zero-add}
 use native.Mathlib.Numerals.{add-one}
@@ -9,7 +9,7 @@ use native.Mathlib.Omega.{arith}
 use lib.Dec.{eqb}
 use lib.ListN.{get_or, length, drop, length-drop, drop_of_length-le}
 use lib.Seq.{length-take-le, get_or-take, get_or-drop, drop-cons}
-use borrow.Author.Tests.{eq-eqb, ne_eqb}
+use Rattle.std.specs.List.{range_with_len, list_any}
 use Rattle.model.specs.Folds.{member}
 use Rattle.model.specs.Jobs.{no_job, job, predecessors}
 use Rattle.words.specs.Tabulate.{tabulate}
@@ -51,10 +51,6 @@ module _ (rows : List ℕ) (k i : ℕ) (h : i < k) (r : Rows rows k) where
         ∙ get_or-drop (i * row_words + predecessors_at) rows j 0
         ∙ ap (λ (n : ℕ). get_or rows n 0) (omega arith)
 
-    -- A predecessor stands inside the row.
-    pub predecessor_in_row : predecessors_at + j < row_words
-    predecessor_in_row = omega (arith, below, r.few i h)
-
     -- A predecessor is smaller than the job.
     pub predecessor_below : word rows i (predecessors_at + j) < i
     predecessor_below = omega (arith, r.earlier i j h below, ap (λ (n : ℕ). get_or rows n 0) place)
@@ -62,22 +58,12 @@ module _ (rows : List ℕ) (k i : ℕ) (h : i < k) (r : Rows rows k) where
         place : i * row_words + (predecessors_at + j) ≡ i * row_words + predecessors_at + j
         place = omega arith
 
--- ---- a search for x in a list, at index j
+-- ---- a search for x in a list, by its places
 
-module _ (x : ℕ) (l : List ℕ) (j : ℕ) (left : member x l ≡ member x (drop j l)) where
-  -- At the end of the list x is no element.
-  pub search_fails : length l ≤ j → member x l ≡ false
-  unfolding member
-  search_fails h = left ∙ rw (drop_of_length-le l h)
-
-  turn : j < length l → member x l ≡ (eqb x (get_or l j 0) || member x (drop (j + 1) l))
-  unfolding member
-  turn h = left ∙ rw (add-one, drop-cons l j 0 h)
-
-  -- Where x stands at the index, it is an element.
-  pub search_finds : j < length l → x ≡ get_or l j 0 → member x l ≡ true
-  search_finds h e = turn h ∙ rw (eq-eqb x (get_or l j 0) e)
-
-  -- Where another number stands there, what follows answers for the whole.
-  pub search_goes_on : j < length l → (x ≡ get_or l j 0 → ⊥) → member x l ≡ member x (drop (j + 1) l)
-  search_goes_on h d = turn h ∙ rw (ne_eqb x (get_or l j 0) d)
+-- The test of each place from `a` on, of which n are left, answers for what is left of the list.
+pub member_by_place : (x : ℕ) (l : List ℕ) (a n : ℕ) → a + n ≡ length l → list_any (λ j. eqb x (get_or l j 0)) (range_with_len a n) ≡ member x (drop a l)
+unfolding member
+member_by_place x l a zero e = rw (drop_of_length-le l {i = a} (omega arith)) refl
+member_by_place x l a (suc n) e =
+    let rest = member_by_place x l (a + 1) n (omega arith) ∙ ap (λ (b : ℕ). member x (drop b l)) (add-one a) in
+    rw (drop-cons l a 0 (omega arith)) (ap (λ (b : Bool). eqb x (get_or l a 0) || b) rest)

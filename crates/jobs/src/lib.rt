@@ -110,15 +110,7 @@ pub fn is_predecessor(rows: &[u32], k: usize, i: usize, w: usize) -> bool
     requires { (i < k) × Rows rows.now k }
     ensures { result ≡ member w (predecessors (jobs_of_rows rows.now k) i) }
 {
-    let n = predecessor_count(rows, k, i);
-    let mut j = 0;
-    while j < n {
-        if w == predecessor(rows, k, i, j) {
-            return true;
-        }
-        j += 1;
-    }
-    false
+    (0..predecessor_count(rows, k, i)).any(|j| w == predecessor(rows, k, i, j))
 }
 
 // Where job i stands in the order of priority: of two jobs the one with the smaller number here goes before the other.

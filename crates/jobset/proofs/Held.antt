@@ -5,9 +5,12 @@ use mathlib.Core.List.{List, [], ◌∷◌, ◌++◌, append_assoc}
 use mathlib.Core.Option.{Option, none, some}
 use native.Mathlib.Nat.{zero-add}
 use native.Mathlib.Omega.{arith}
-use lib.ListN.{get_or, length, take, drop, replicate, length-append, length-drop, length-map, get_or-append, get_or-eq_default}
+use lib.ListN.{get_or, length, take, drop, replicate, length-append, length-map, get_or-append, get_or-eq_default}
 use lib.Seq.{get_or-drop, get_or-append-add, get_or_at, take_at, drop-append-add, drop-drop}
 use borrow.Author.Tests.{eq-eqb, ne_eqb}
+use Rattle.std.specs.Int.{from_bool}
+use Rattle.std.specs.Prelude.{Some, None, is_some, option_to_list, unwrap_or}
+use Rattle.std.specs.Prelude as found
 use Rattle.model.specs.Limits.{most_jobs}
 use Rattle.model.specs.Jobs.{Job, no_job, job, nearest, as_list, predecessors}
 use Rattle.words.specs.Tabulate.{tabulate}
@@ -30,7 +33,7 @@ use Rattle.rows.proofs.Records.{records_snoc}
 use Rattle.rows.proofs.PhraseTable.{few_bells_holds, few_notes_holds, few_listed, struck_below, header_word, bell_word_holds, note_word_holds, phrase_of_holds}
 use Rattle.jobs.specs.internal.JobRow.{row_words, earliest_release_at, predecessor_count_at, rest_at, job_row, job_rows}
 use Rattle.jobs.specs.internal.Fields.{fields}
-use Rattle.jobset.specs.internal.Making.{jobs_held, found_of, option_of, predecessor_words, origin_words}
+use Rattle.jobset.specs.internal.Making.{jobs_held, found_of, predecessor_words, origin_words}
 use Rattle.jobs.proofs.JobRow.{row_length, rows_length}
 
 -- ---- lists with zeros after them, and with one element or none
@@ -49,23 +52,38 @@ one_more : (l : List ℕ) (o : Option ℕ) → length (l ++ as_list o) ≤ suc (
 one_more l none = omega (arith, length-append {A = ℕ} l [])
 one_more l (some x) = omega (arith, length-append l (x ∷ []))
 
-module _ (l : List ℕ) (o : Option ℕ) (j : ℕ) where
+-- What the code found, as a list, is what was looked for.
+pub found_list : (o : Option ℕ) → option_to_list (found_of o) ≡ as_list o
+found_list (some x) = refl
+found_list none = refl
+
+module _ (l e : List ℕ) (j : ℕ) where
   -- Before the end of the list the elements are its own.
-  pub word_within : j < length l → get_or l j 0 ≡ get_or (l ++ as_list o) j 0
-  word_within h = sym (get_or-append l (as_list o) 0 j h)
+  pub word_within : j < length l → get_or l j 0 ≡ get_or (l ++ e) j 0
+  word_within h = sym (get_or-append l e 0 j h)
 
-  -- At its end stands the one element more, if any.
-  pub word_at_end : j ≡ length l → get_or (as_list o) 0 0 ≡ get_or (l ++ as_list o) j 0
-  word_at_end e = let place : length l + 0 ≡ j = omega (arith, e) in sym (get_or-append-add l (as_list o) 0 0) ∙ ap (λ (k : ℕ). get_or (l ++ as_list o) k 0) place
+  -- At its end the elements of the other list begin.
+  pub word_at_end : j ≡ length l → get_or e 0 0 ≡ get_or (l ++ e) j 0
+  word_at_end h = let place : length l + 0 ≡ j = omega (arith, h) in sym (get_or-append-add l e 0 0) ∙ ap (λ (k : ℕ). get_or (l ++ e) k 0) place
 
-  -- After that there is none.
-  pub word_beyond : length l < j → 0 ≡ get_or (l ++ as_list o) j 0
-  word_beyond h = sym (get_or-eq_default (l ++ as_list o) 0 {n = j} (omega (arith, one_more l o)))
+-- After the end, and one element at most, there is none.
+pub word_beyond : (l : List ℕ) (o : found.Option ℕ) (j : ℕ) → length l < j → 0 ≡ get_or (l ++ option_to_list o) j 0
+word_beyond l None j h = sym (get_or-eq_default (l ++ []) 0 {n = j} (omega (arith, h, length-append {A = ℕ} l [])))
+word_beyond l (Some x) j h = sym (get_or-eq_default (l ++ (x ∷ [])) 0 {n = j} (omega (arith, h, length-append l (x ∷ []))))
 
--- A number that was found is the one that was looked for.
-pub option_found : (o : Option ℕ) → option_of (found_of o) ≡ o
-option_found (some x) = refl
-option_found none = refl
+-- The first of what was found, 0 where there is none.
+pub found_first : (o : found.Option ℕ) → unwrap_or o 0 ≡ get_or (option_to_list o) 0 0
+found_first None = refl
+found_first (Some x) = refl
+
+-- How many were found.
+pub found_count : (o : found.Option ℕ) → length (option_to_list o) ≡ from_bool (is_some o)
+found_count None = refl
+found_count (Some x) = refl
+
+pub at_most_one : (o : found.Option ℕ) → length (option_to_list o) ≤ 1
+at_most_one None = omega arith
+at_most_one (Some x) = omega arith
 
 -- ---- the nearest job, from n down
 
@@ -262,9 +280,3 @@ rows_more js i t few h =
     ∙ sym (append_assoc (job_rows js i) (job_row js i) (drop (suc i * row_words) t))
     ∙ ap (λ (l : List ℕ). l ++ drop (suc i * row_words) t) (sym more)
     ∙ ap (λ (k : ℕ). job_rows js k ++ drop (k * row_words) t) next
-
--- The rows in the place of the first words of a table leave it as long as it was.
-pub rows_room : (js : List Job) (i : ℕ) (t rows : List ℕ) → ((j : ℕ) → j < i → length (predecessors js j) ≤ most_predecessors) → i * row_words ≤ length t
-    → rows ≡ job_rows js i ++ drop (i * row_words) t → length rows ≡ length t
-rows_room js i t rows few h e =
-    ap length e ∙ length-append (job_rows js i) (drop (i * row_words) t) ∙ omega (arith, rows_length js i few, length-drop (i * row_words) t)

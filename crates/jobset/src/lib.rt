@@ -1,9 +1,9 @@
 // The rows of a phrase's jobs, made from the table of the phrase.
 #![tactic(auto)]
 
-ghost use Rattle.std.specs.Prelude.{◌≡◌, ◌++◌, ◌+◌, ◌*◌, ◌≤◌, ◌<◌, get_or, length};
+ghost use Rattle.std.specs.Prelude.{◌≡◌, ◌++◌, ◌+◌, ◌*◌, ◌≤◌, ◌<◌, get_or, length, option_to_list};
 ghost use Rattle.model.specs.Limits.{most_jobs};
-ghost use Rattle.model.specs.Jobs.{job, nearest, as_list, predecessors};
+ghost use Rattle.model.specs.Jobs.{job, nearest, predecessors};
 ghost use Rattle.words.specs.internal.Placed.{placed};
 ghost use Rattle.format.specs.Layout.{most_listed};
 ghost use Rattle.format.specs.internal.Analysable.{most_predecessors};
@@ -12,7 +12,7 @@ ghost use Rattle.rows.specs.internal.Handed.{HandedOn};
 ghost use Rattle.jobs.specs.internal.JobRow.{row_words, earliest_release_at, predecessor_count_at, rest_at, job_row};
 ghost use Rattle.jobs.specs.internal.JobTable.{job_table};
 ghost use Rattle.jobs.specs.internal.Fields.{fields};
-ghost use Rattle.jobset.specs.internal.Making.{jobs_held, found_of, option_of, predecessor_words, origin_words};
+ghost use Rattle.jobset.specs.internal.Making.{jobs_held, found_of, predecessor_words, origin_words};
 
 use jobs::row::{
     BELL, DEADLINE, EARLIEST_RELEASE, JOB_TABLE, LATEST_RELEASE, LEAST_EXECUTION, LISTED_COUNT,
@@ -29,54 +29,24 @@ use rows::note::{
 };
 use rows::{NOTE_COUNT, PHRASE_WORDS, bell_word, note_word};
 
-// The number of the job that was looked for.
-#[derive(Clone, Copy)]
-pub enum Found {
-    At(u32),
-    Nothing,
-}
-
 // The nearest to `own` of the jobs before it that strike the bell.
-fn nearest_job(phrase: &[u32; PHRASE_WORDS], bell: u32, own: usize) -> Found
+fn nearest_job(phrase: &[u32; PHRASE_WORDS], bell: u32, own: usize) -> Option<u32>
     requires { HandedOn phrase.now × (own < length (jobs_held phrase.now)) }
     ensures { result ≡ found_of (nearest (jobs_held phrase.now) bell own) }
 {
-    let mut n = own;
-    while 0 < n {
-        n -= 1;
+    for n in (0..own).rev() {
         let struck = note_word(phrase, n, STRUCK);
         if struck == bell {
-            return Found::At(n as u32);
+            return Some(n as u32);
         }
     }
-    Found::Nothing
-}
-
-// How many predecessors there are, with the one that was looked for.
-fn count_with(listed: u32, earlier: Found) -> u32
-    requires { listed ≤ most_listed }
-    ensures { result ≡ listed + length (as_list (option_of earlier)) }
-{
-    match earlier {
-        Found::At(_) => listed + 1,
-        Found::Nothing => listed,
-    }
-}
-
-// The number that was found, 0 where none was.
-fn number_of(earlier: Found) -> u32
-    ensures { result ≡ get_or (as_list (option_of earlier)) 0 0 }
-{
-    match earlier {
-        Found::At(number) => number,
-        Found::Nothing => 0,
-    }
+    None
 }
 
 // The j-th predecessor of job i, 0 where it has no more: the listed ones, then the nearest of its bell.
-fn predecessor_word(phrase: &[u32; PHRASE_WORDS], i: usize, earlier: Found, j: usize) -> u32
+fn predecessor_word(phrase: &[u32; PHRASE_WORDS], i: usize, earlier: Option<u32>, j: usize) -> u32
     requires { HandedOn phrase.now × (i < length (jobs_held phrase.now)) × (j < most_predecessors) }
-    ensures { result ≡ get_or ((job (jobs_held phrase.now) i).listed ++ as_list (option_of earlier)) j 0 }
+    ensures { result ≡ get_or ((job (jobs_held phrase.now) i).listed ++ option_to_list earlier) j 0 }
 {
     let listed = note_word(phrase, i, NOTE_LISTED_COUNT) as usize;
     if j < listed {
@@ -85,7 +55,7 @@ fn predecessor_word(phrase: &[u32; PHRASE_WORDS], i: usize, earlier: Found, j: u
     if listed < j {
         return 0;
     }
-    number_of(earlier)
+    earlier.unwrap_or(0)
 }
 
 // The fields of job i that are numbers.
@@ -111,7 +81,7 @@ fn write_predecessors(phrase: &[u32; PHRASE_WORDS], i: usize, row: &mut [u32])
     let bell = note_word(phrase, i, STRUCK);
     let listed = note_word(phrase, i, NOTE_LISTED_COUNT);
     let earlier = nearest_job(phrase, bell, i);
-    row[PREDECESSOR_COUNT] = count_with(listed, earlier);
+    row[PREDECESSOR_COUNT] = listed + u32::from(earlier.is_some());
     row[PREDECESSORS] = predecessor_word(phrase, i, earlier, 0);
     row[PREDECESSORS + 1] = predecessor_word(phrase, i, earlier, 1);
     row[PREDECESSORS + 2] = predecessor_word(phrase, i, earlier, 2);
@@ -157,10 +127,8 @@ fn write_rows(phrase: &[u32; PHRASE_WORDS], rows: &mut [u32])
     ensures { rows.new ≡ job_table (phrase_of phrase.now) rows.old }
 {
     let count = phrase[NOTE_COUNT] as usize;
-    let mut i = 0;
-    while i < count {
+    for i in 0..count {
         put_job(phrase, i, rows);
-        i += 1;
     }
 }
 

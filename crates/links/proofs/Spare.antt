@@ -1,13 +1,13 @@
 -- The first job that is not in the set, and what its finish words say of the state: nothing. Assumes nothing.
 use Prim.Native.Nat.{ℕ, zero, suc, ◌+◌, ◌-◌, ◌/◌, ◌%◌, ◌^◌, ◌≤◌, ◌<◌}
 use mathlib.Core.Path.{◌≡◌, refl, sym, ap, ◌∙◌}
-use mathlib.Core.Logic.{⊎_elim}
+use mathlib.Core.Logic.{◌⊎◌, inl, inr, ⊎_elim}
 use mathlib.Core.Bool.{Bool, true, false, true≢false}
 use mathlib.Core.List.{List}
 use native.Mathlib.Omega.{arith}
 use lib.Count.{count_trailing_zeros, under}
 use lib.Dec.{eqb, leb}
-use lib.ListN.{get_or, length, set}
+use lib.ListN.{length, set}
 use lib.Pow.{pow_mono}
 use lib.Seq.{get_or-set_same, get_or-set_other}
 use borrow.Author.Tests.{eq-eqb, leb-true, leb-false}
@@ -22,7 +22,7 @@ use Rattle.states.specs.internal.Slots.{possibly_at, certainly_at, earliest_at, 
 use Rattle.states.proofs.Bits.{in_half}
 use Rattle.states.proofs.Contents.{finish_length, started_at}
 use Rattle.states.proofs.Frames.{same_state, same_set_words, same_range}
-use Rattle.links.specs.internal.Spare.{spare_of, head_of, link_of, Kept}
+use Rattle.links.specs.internal.Spare.{spare_of, word_of, Kept}
 
 -- ---- the lowest digit that is set in what is left of all
 
@@ -79,16 +79,6 @@ spare_exists m k ws h fits l = ⊎_elim (λ q. absurd (never (leb-true k spare q
               (λ i b. started_at m k ws i (omega (arith, b, finish_length m k ws)) ∙ spare_first (set_of ws) fits₂ i (omega (arith, q, b, finish_length m k ws))),
         )
 
--- its words, read: i is the spare job
-module _ (m k : ℕ) (ws : List ℕ) (i : ℕ) (spare : i ≡ spare_of (set_of ws)) where
-  pub head_read : get_or ws (earliest_at m + i) 0 ≡ head_of m k ws
-  unfolding head_of
-  head_read = rw spare refl
-
-  pub link_read : get_or ws (latest_at m k + i) 0 ≡ link_of m k ws
-  unfolding link_of
-  link_read = rw spare refl
-
 -- ---- a finish word set, of a job that is not in the set
 
 module _ (m k : ℕ) (ws : List ℕ) (p v : ℕ) (late : earliest_at m ≤ p)
@@ -127,36 +117,24 @@ module _ (m k : ℕ) (ws : List ℕ) (i v : ℕ) (h : k ≤ most_jobs) (long : s
   other j e z =
       true≢false (sym e ∙ ap (in_set (set_of ws)) (sym z ∙ spare) ∙ spare_unstarted (set_of ws) fits (omega (arith, inside, h)))
 
-  -- a head says nothing of the state
-  pub head_kept : Kept m k ws (set ws (earliest_at m + i) v)
-  head_kept =
-      word_kept m k ws (earliest_at m + i) v (omega arith)
-      (λ j b e. (λ z. other j e (omega (arith, z)), λ z. omega (arith, z, spare, inside)))
+  -- a spare word says nothing of the state
+  pub spare_kept : (p : ℕ) → (p ≡ earliest_at m) ⊎ (p ≡ latest_at m k) → Kept m k ws (set ws (p + i) v)
+  spare_kept p (inl e) =
+      word_kept m k ws (p + i) v (omega (arith, e))
+      (λ j b q. (λ z. other j q (omega (arith, z, e)), λ z. omega (arith, z, e, spare, inside)))
+  spare_kept p (inr e) =
+      word_kept m k ws (p + i) v (omega (arith, e))
+      (λ j b q. (λ z. omega (arith, z, b, e), λ z. other j q (omega (arith, z, e))))
 
-  -- it is read as written
-  pub head_written : head_of m k (set ws (earliest_at m + i) v) ≡ v
-  unfolding head_of
-  head_written =
-      rw (head_kept.set, sym spare) (get_or-set_same ws (earliest_at m + i) v 0 (omega (arith, long, spare, inside)))
+  module _ (at : ℕ → ℕ → ℕ) (which : (at m k ≡ earliest_at m) ⊎ (at m k ≡ latest_at m k)) where
+    -- it is read as written
+    pub spare_written : at m k + k ≤ state_words m k → word_of at m k (set ws (at m k + i) v) ≡ v
+    unfolding word_of
+    spare_written h₂ =
+        rw ((spare_kept (at m k) which).set, sym spare) (get_or-set_same ws (at m k + i) v 0 (omega (arith, long, spare, inside, h₂)))
 
-  -- the link stays
-  pub head_link : link_of m k (set ws (earliest_at m + i) v) ≡ link_of m k ws
-  unfolding link_of
-  head_link = rw head_kept.set (get_or-set_other ws (earliest_at m + i) (latest_at m k + spare_of (set_of ws)) v 0 (λ z. omega (arith, z, spare, inside)))
-
-  -- a link says nothing of the state
-  pub link_kept : Kept m k ws (set ws (latest_at m k + i) v)
-  link_kept =
-      word_kept m k ws (latest_at m k + i) v (omega arith)
-      (λ j b e. (λ z. omega (arith, z, b), λ z. other j e (omega (arith, z))))
-
-  -- it is read as written
-  pub link_written : link_of m k (set ws (latest_at m k + i) v) ≡ v
-  unfolding link_of
-  link_written =
-      rw (link_kept.set, sym spare) (get_or-set_same ws (latest_at m k + i) v 0 (omega (arith, long, spare, inside)))
-
-  -- the head stays
-  pub link_head : head_of m k (set ws (latest_at m k + i) v) ≡ head_of m k ws
-  unfolding head_of
-  link_head = rw link_kept.set (get_or-set_other ws (latest_at m k + i) (earliest_at m + spare_of (set_of ws)) v 0 (λ z. omega (arith, z, spare, inside)))
+    -- the other one stays
+    pub spare_other : (at₂ : ℕ → ℕ → ℕ) → (at₂ m k ≡ at m k → ⊥) → word_of at₂ m k (set ws (at m k + i) v) ≡ word_of at₂ m k ws
+    unfolding word_of
+    spare_other at₂ ne =
+        rw (spare_kept (at m k) which).set (get_or-set_other ws (at m k + i) (at₂ m k + spare_of (set_of ws)) v 0 (λ z. ne (omega (arith, z, spare))))

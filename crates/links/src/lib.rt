@@ -2,14 +2,15 @@
 // head nearer to the set, for it is read with each search. A state in which every job has started has none.
 #![tactic(auto)]
 
-ghost use Rattle.std.specs.Prelude.{◌≡◌, ◌≤◌, ◌<◌, length};
+ghost use Rattle.std.specs.Prelude.{◌≡◌, ℕ, ◌≤◌, ◌<◌, length};
 ghost use Rattle.model.specs.Limits.{most_cores, most_jobs};
 ghost use Rattle.model.specs.Exploration.{state_words};
 ghost use Rattle.states.specs.internal.Slots.{set_of};
-ghost use Rattle.links.specs.internal.Spare.{spare_of, head_of, link_of, Kept};
+ghost use Rattle.links.specs.internal.Spare.{spare_of, word_of, Kept};
 
-use states::reading::started_set;
-use states::sizes::SET_WORDS;
+use states::reading::{End, started_set};
+// The head stands in place of the earliest finish time, the link in place of the latest.
+pub use states::reading::{Earliest as Head, Latest as Link};
 
 // The set of all jobs.
 const ALL_JOBS: u64 = 18446744073709551615;
@@ -21,38 +22,21 @@ fn spare_job(set: u64) -> usize
     u64::trailing_zeros(ALL_JOBS - set) as usize
 }
 
-// The head that stands with a state.
-pub fn head_of(s: &[u32], m: usize, k: usize) -> u32
+// The head or the link of a state.
+pub fn spare_word<E: End>(s: &[u32], m: usize, k: usize) -> u32
     requires { (m ≤ most_cores) × (k ≤ most_jobs) × (state_words m k ≤ length s.now) × (spare_of (set_of s.now) < k) }
-    ensures { result ≡ head_of m k s.now }
+    ensures { result ≡ word_of E.at m k s.now }
 {
-    s[SET_WORDS + 2 * m + spare_job(started_set(s))]
+    s[E::first_word(m, k) + spare_job(started_set(s))]
 }
 
-// The link of a state.
-pub fn link_of(s: &[u32], m: usize, k: usize) -> u32
-    requires { (m ≤ most_cores) × (k ≤ most_jobs) × (state_words m k ≤ length s.now) × (spare_of (set_of s.now) < k) }
-    ensures { result ≡ link_of m k s.now }
-{
-    s[SET_WORDS + 2 * m + k + spare_job(started_set(s))]
-}
-
-// Writes the head that stands with a state.
-pub fn write_head(s: &mut [u32], m: usize, k: usize, head: u32)
+// Writes the head or the link of a state; the other stays.
+pub fn write_spare_word<E: End>(s: &mut [u32], m: usize, k: usize, word: u32)
     requires { (m ≤ most_cores) × (k ≤ most_jobs) × (state_words m k ≤ length s.old) × (spare_of (set_of s.old) < k) }
     ensures kept { Kept m k s.old s.new }
-    ensures s_unchanged { (link_of m k s.new ≡ link_of m k s.old) × (head_of m k s.new ≡ head) }
+    ensures s_after { (word_of E.at m k s.new ≡ word)
+        × ((at : ℕ → ℕ → ℕ) → (at m k ≡ E.at m k → ⊥) → word_of at m k s.new ≡ word_of at m k s.old) }
 {
-    let at = SET_WORDS + 2 * m + spare_job(started_set(s));
-    s[at] = head;
-}
-
-// Writes the link of a state.
-pub fn write_link(s: &mut [u32], m: usize, k: usize, link: u32)
-    requires { (m ≤ most_cores) × (k ≤ most_jobs) × (state_words m k ≤ length s.old) × (spare_of (set_of s.old) < k) }
-    ensures kept { Kept m k s.old s.new }
-    ensures s_after { (link_of m k s.new ≡ link) × (head_of m k s.new ≡ head_of m k s.old) }
-{
-    let at = SET_WORDS + 2 * m + k + spare_job(started_set(s));
-    s[at] = link;
+    let at = E::first_word(m, k) + spare_job(started_set(s));
+    s[at] = word;
 }

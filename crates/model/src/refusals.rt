@@ -1,4 +1,21 @@
-// The numbers of the refusals: those of specs/Refusals, which has a word on each.
+// Refusals, and their numbers: those of specs/Refusals, which has a word on each.
+
+ghost use Rattle.std.specs.Prelude.{◌≡◌};
+
+// What is refused: the number says why, the place where.
+#[derive(Clone, Copy)]
+pub struct Refusal {
+    pub number: u32,
+    pub place: usize,
+}
+
+// The answer of what is refused so.
+pub fn refuse<T>(number: u32, place: usize) -> Result<T, Refusal>
+    ensures { result ≡ Err (record { number = number; place = place }) }
+{
+    Err(Refusal { number, place })
+}
+
 pub const WRONG_VERSION: u32 = 1;
 
 pub const WRONG_COUNT: u32 = 2;

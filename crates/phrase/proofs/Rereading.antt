@@ -20,7 +20,8 @@ use Rattle.format.proofs.Refusals.{some_number, refused_within, rules_refused_wi
 use Rattle.format.proofs.Theorems.{sound, write_only, write_read, read_write}
 use Rattle.rows.specs.PhraseTable.{phrase_table, phrase_of}
 use Rattle.rows.proofs.PhraseTable.{phrase_of_holds}
-use Rattle.rules.specs.declared.answers.Writing.TheVariants.{Written, Refused}
+use Rattle.std.specs.Prelude.{Ok, Err}
+use Rattle.model.specs.declared.refusals.Refusal.{Refusal}
 use Rattle.writer.specs.internal.Answers.{writing_of}
 use Rattle.phrase.specs.Host.{places}
 
@@ -39,14 +40,14 @@ module _ (s : List ℕ) where
 -- ---- writing
 
 -- What the code wrote was written.
-pub was_written : (o : Outcome (List ℕ)) (size : ℕ) → writing_of o ≡ Written size → (s : List ℕ) × (o ≡ ok s) × (size ≡ length s)
+pub was_written : (o : Outcome (List ℕ)) (size : ℕ) → writing_of o ≡ Ok size → (s : List ℕ) × (o ≡ ok s) × (size ≡ length s)
 was_written (ok s) size e = (s, refl, cc)
 was_written (refused n at) size e = let z : ◌≡◌ {A = ℕ} 0 1 = cc in absurd (omega arith)
 
 -- What it refused was refused.
-pub was_unwritten : (o : Outcome (List ℕ)) (n at : ℕ) → writing_of o ≡ Refused n at → o ≡ refused n at
-was_unwritten (ok s) n at e = let z : ◌≡◌ {A = ℕ} 0 1 = cc in absurd (omega arith)
-was_unwritten (refused m to) n at e = cc
+pub was_unwritten : (o : Outcome (List ℕ)) (r : Refusal) → writing_of o ≡ Err r → o ≡ refused r.number r.place
+was_unwritten (ok s) r e = cc
+was_unwritten (refused m to) r e = cc
 
 module _ (x : Phrase) (room : ℕ) where
   -- The bytes of what was written are read as the phrase, whatever follows.

@@ -6,11 +6,9 @@ ghost use Rattle.format.specs.Writing.{writing, leaves};
 ghost use Rattle.rows.specs.PhraseTable.{phrase_table, phrase_of};
 ghost use Rattle.phrase.specs.Host.{places, outcome_number, written_number};
 
-use crate::refusal;
+use crate::number_at;
 use reader::read;
-use records::answers::Reading;
 use rows::PHRASE_WORDS;
-use rules::answers::Writing;
 use writer::write;
 
 // Reads a phrase file. What was read is written as the very file.
@@ -20,8 +18,8 @@ pub fn phrase_read(file: &[u8], phrase: &mut [u32; PHRASE_WORDS]) -> u64
     ensures again { result ≡ 0 → writing (phrase_of phrase.new) (length file.now) ≡ ok file.now }
 {
     match read(file, phrase) {
-        Reading::Whole => 0,
-        Reading::Refused(number, place) => refusal(number, place),
+        Ok(()) => 0,
+        Err(refusal) => number_at(refusal.number, refusal.place),
     }
 }
 
@@ -32,7 +30,7 @@ pub fn phrase_write(phrase: &[u32; PHRASE_WORDS], file: &mut [u8]) -> u64
     ensures again { result < places → reading (take result file.new) ≡ ok (phrase_of phrase.now) }
 {
     match write(phrase, file) {
-        Writing::Written(size) => size as u64,
-        Writing::Refused(number, place) => refusal(number, place),
+        Ok(size) => size as u64,
+        Err(refusal) => number_at(refusal.number, refusal.place),
     }
 }

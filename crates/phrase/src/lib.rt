@@ -23,11 +23,11 @@ pub const TABLE_WORDS: usize = 16384;
 const PLACES: u64 = 4294967296;
 
 // A refusal's number and place in one.
-fn refusal(number: u32, place: usize) -> u64
+fn number_at(number: u32, place: usize) -> u64
     requires { place < places }
     ensures { result ≡ refusal_at number place }
 {
-    number as u64 * PLACES + place as u64
+    u64::from(number) * PLACES + place as u64
 }
 
 fn number(answer: Answer) -> u64
@@ -36,8 +36,8 @@ fn number(answer: Answer) -> u64
 {
     match answer {
         Answer::Accepted => 0,
-        Answer::Refused(number, place) => refusal(number, place),
-        Answer::Late(job, _, _) => refusal(LATE_JOB, job),
+        Answer::Refused(number, place) => number_at(number, place),
+        Answer::Late(job, _, _) => number_at(LATE_JOB, job),
     }
 }
 
@@ -50,9 +50,7 @@ pub fn phrase_check_with(file: &[u8], table: &mut [u32]) -> u64
     ensures certain { IsCertain (reading file.now) → HasRoom (reading file.now) (length table.old)
         → NumberByRun (reading file.now) (length table.old) result }
 {
-    let checked = check(file, table);
-    let answer = checked.answer;
-    number(answer)
+    number(check(file, table).answer)
 }
 
 // Checks a phrase file.
@@ -73,8 +71,7 @@ pub fn phrase_report_with(file: &[u8], table: &mut [u32], text: &mut [u8]) -> us
         ≡ delivered (text_of (reading file.now) (length table.old)) text.old }
     ensures table { TableKept (reading file.now) table.old table.new }
 {
-    let reported = report(file, table, text);
-    reported.length
+    report(file, table, text).length
 }
 
 // Reports on a phrase file.

@@ -6,10 +6,9 @@ ghost use Rattle.playing.specs.Playing.{played_of, starts_of, finishes_of};
 ghost use Rattle.playing.specs.Promise.{RanAs, Inside};
 ghost use Rattle.phrase.specs.Host.{outcome_number};
 
-use crate::refusal;
+use crate::number_at;
 use model::limits::MOST_JOBS;
 use player::play;
-use playing::answers::Admission;
 
 // Works out a playing of a phrase file. These are the starts and ends of its run; of a phrase that a check accepts, whatever its table, the ends lie in the
 // reported ranges and are in time.
@@ -27,7 +26,7 @@ pub fn phrase_play(
         → Inside (reading file.now) (verdict (reading file.now) words) ends.new }
 {
     match play(file, playing, starts, ends) {
-        Admission::Admitted => 0,
-        Admission::Refused(number, place) => refusal(number, place),
+        Ok(()) => 0,
+        Err(refusal) => number_at(refusal.number, refusal.place),
     }
 }

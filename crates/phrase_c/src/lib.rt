@@ -1,4 +1,5 @@
-// What a host program in C calls: each call of phrase, under the name and with the promises that it has there.
+// What a host program in C calls: each call of phrase, under the name and with the promises that it has there. The calls are written out again, for C links
+// against plain functions with exported names.
 #![tactic(auto)]
 
 mod editing;

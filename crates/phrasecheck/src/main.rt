@@ -14,8 +14,7 @@ const TEXT_BYTES: usize = 32768;
 fn print_report(rt: &impl Print, file: &[u8]) -> io::Result<()> {
     let mut table = [0u32; TABLE_WORDS];
     let mut text = [0u8; TEXT_BYTES];
-    let reported = report(file, &mut table, &mut text);
-    let length = reported.length;
+    let length = report(file, &mut table, &mut text).length;
     rt.write_all(&text[..length])
 }
 
@@ -23,7 +22,7 @@ fn main(rt: HostRuntime) -> io::Result<()> {
     let mut input = [0u8; MOST_INPUT + 1];
     let n = read_full(&rt, &mut input)?;
     if MOST_INPUT < n {
-        return rt.write_all(b"input too long\n");
+        return println!(rt; "input too long");
     }
     print_report(&rt, &input[..n])
 }

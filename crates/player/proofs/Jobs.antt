@@ -7,7 +7,7 @@ use Rattle.model.specs.Jobs.{Job}
 use Rattle.model.specs.Dispatch.{Scenario}
 use Rattle.model.specs.Guarantee.{WellFormed, Admissible}
 use Rattle.model.specs.Playing.{start_time, finish_time}
-use Rattle.format.specs.Outcome.{Outcome, ok, refused, ◌>>=◌}
+use Rattle.format.specs.Outcome.{Outcome, ok, ◌>>=◌}
 use Rattle.jobs.specs.internal.JobRow.{jobs_of_rows, Setting}
 use Rattle.jobs.proofs.Jobs.{length_jobs}
 use Rattle.checking.specs.Checking.{per_job}
@@ -18,10 +18,6 @@ use Rattle.dispatch.specs.internal.Turns.{Dispatchable}
 module _ (rows : List ℕ) (k m : ℕ) (playing : List ℕ) where
   abbrev js : List Job
   js = jobs_of_rows rows k
-
-  -- what the playing was refused with
-  pub not_played : (n at : ℕ) → scenario_for js playing ≡ refused n at → played_for js m playing ≡ refused n at
-  not_played n at e = ap (λ (o : Outcome Scenario). ◌>>=◌ o (λ s. ok (times_of js m s))) e
 
   module _ (s : Scenario) (is : scenario_for js playing ≡ ok s) where
     abbrev s_is : s ≡ scenario_in playing

@@ -15,12 +15,10 @@ use dispatch::dispatch;
 use jobs::row::JOB_TABLE;
 use jobset::write_jobs;
 use model::limits::MOST_JOBS;
+use model::refusals::Refusal;
 use playing::admit;
-pub use playing::answers::Admission;
 use reader::read;
-use records::answers::Reading;
 use rows::{CORES, NOTE_COUNT, PHRASE_WORDS, header_word};
-use words::clear;
 
 // Works out a playing of the jobs of k rows on m cores.
 fn play_jobs(
@@ -30,19 +28,16 @@ fn play_jobs(
     playing: &[u8],
     starts: &mut [u32; MOST_JOBS],
     finishes: &mut [u32; MOST_JOBS],
-) -> Admission
+) -> Result<(), Refusal>
     requires { Setting rows.now k m × WellFormed (jobs_of_rows rows.now k) m
         × (starts.old ≡ replicate most_jobs 0) × (finishes.old ≡ replicate most_jobs 0) }
     ensures value { result ≡ admission_of (played_for (jobs_of_rows rows.now k) m playing.now) }
     ensures starts_after { starts.new ≡ starts_of (played_for (jobs_of_rows rows.now k) m playing.now) }
     ensures finishes_after { finishes.new ≡ finishes_of (played_for (jobs_of_rows rows.now k) m playing.now) }
 {
-    let answer = admit(rows, k, playing);
-    let Admission::Admitted = answer else {
-        return answer;
-    };
+    admit(rows, k, playing)?;
     dispatch(rows, k, m, playing, starts, finishes);
-    answer
+    Ok(())
 }
 
 // Works out a playing of a phrase, from its table.
@@ -51,7 +46,7 @@ fn play_phrase(
     playing: &[u8],
     starts: &mut [u32; MOST_JOBS],
     finishes: &mut [u32; MOST_JOBS],
-) -> Admission
+) -> Result<(), Refusal>
     requires { HandedOn phrase.now × (starts.old ≡ replicate most_jobs 0) × (finishes.old ≡ replicate most_jobs 0) }
     ensures value { result ≡ admission_of (played_of (ok (phrase_of phrase.now)) playing.now) }
     ensures starts_after { starts.new ≡ starts_of (played_of (ok (phrase_of phrase.now)) playing.now) }
@@ -70,16 +65,14 @@ pub fn play(
     playing: &[u8],
     starts: &mut [u32; MOST_JOBS],
     finishes: &mut [u32; MOST_JOBS],
-) -> Admission
+) -> Result<(), Refusal>
     ensures answer { result ≡ admission_of (played_of (reading file.now) playing.now) }
     ensures starts { starts.new ≡ starts_of (played_of (reading file.now) playing.now) }
     ensures finishes { finishes.new ≡ finishes_of (played_of (reading file.now) playing.now) }
 {
-    clear(starts);
-    clear(finishes);
+    starts.fill(0);
+    finishes.fill(0);
     let mut phrase = [0u32; PHRASE_WORDS];
-    match read(file, &mut phrase) {
-        Reading::Whole => play_phrase(&phrase, playing, starts, finishes),
-        Reading::Refused(number, place) => Admission::Refused(number, place),
-    }
+    read(file, &mut phrase)?;
+    play_phrase(&phrase, playing, starts, finishes)
 }

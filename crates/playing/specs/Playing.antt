@@ -1,6 +1,7 @@
 -- A playing of a phrase (document 02): one call moment and one hold for each stroke, in a file of its own; and the run that it gives. Assumes nothing.
-use Rattle.std.specs.Prelude.{ℕ, zero, suc, ◌+◌, ◌-◌, ◌*◌, Bool, ◌&&◌, List, leb, eqb, length, replicate}
+use Rattle.std.specs.Prelude.{ℕ, zero, suc, ◌+◌, ◌-◌, ◌*◌, Bool, ◌&&◌, List, leb, eqb, length, replicate, Result, Ok, Err}
 use Rattle.model.specs.Limits.{most_jobs}
+use Rattle.model.specs.declared.refusals.Refusal.{Refusal}
 use Rattle.model.specs.Refusals.{wrong_playing, outside_range}
 use Rattle.model.specs.Jobs.{Job, job}
 use Rattle.model.specs.Dispatch.{Scenario}
@@ -10,8 +11,6 @@ use Rattle.format.specs.Phrase.{Phrase}
 use Rattle.format.specs.Jobs.{jobs_of}
 use Rattle.format.specs.Outcome.{Outcome, ok, refused, ◌>>=◌, ◌>>◌, require}
 use Rattle.checking.specs.Checking.{per_job}
-use Rattle.playing.specs.declared.answers.Admission.{Admission}
-use Rattle.playing.specs.declared.answers.Admission.TheVariants.{Admitted, Refused}
 
 -- ---- the file: version, count of the bytes after it, and for each job a release (call moment) of four bytes and an execution time (hold) of two
 
@@ -102,6 +101,6 @@ finishes_of (ok x) = x.finishes
 finishes_of (refused n at) = replicate most_jobs 0
 
 -- what is answered in code
-abbrev pub admission_of : {A : Type 0} → Outcome A → Admission
-admission_of (ok a) = Admitted
-admission_of (refused n at) = Refused n at
+abbrev pub admission_of : {A : Type 0} → Outcome A → Result (Unit {0}) Refusal
+admission_of (ok a) = Ok tt
+admission_of (refused n at) = Err (record { number = n; place = at })

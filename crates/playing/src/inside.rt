@@ -27,17 +27,15 @@ fn in_ranges(rows: &[u32], k: usize, playing: &[u8], i: usize) -> bool
     )
 }
 
-// The first job with a call or a hold outside its range, or k.
-pub fn first_outside(rows: &[u32], k: usize, playing: &[u8]) -> usize
+// The first job with a call or a hold outside its range, if any.
+pub fn first_outside(rows: &[u32], k: usize, playing: &[u8]) -> Option<usize>
     requires { Rows rows.now k × HasJobs playing.now k }
     ensures { IsFirstOutside (jobs_of_rows rows.now k) (scenario_in playing.now) k result }
 {
-    let mut i = 0;
-    while i < k {
+    for i in 0..k {
         if !in_ranges(rows, k, playing, i) {
-            return i;
+            return Some(i);
         }
-        i += 1;
     }
-    i
+    None
 }

@@ -2,7 +2,6 @@
 // what is promised of it.
 #![tactic(auto)]
 
-pub mod answers;
 mod inside;
 pub mod scenario;
 
@@ -11,22 +10,20 @@ ghost use Rattle.model.specs.Limits.{most_jobs};
 ghost use Rattle.jobs.specs.internal.JobRow.{jobs_of_rows, Rows};
 ghost use Rattle.playing.specs.Playing.{scenario_for, admission_of};
 
-use crate::answers::Admission;
 use crate::inside::first_outside;
 use crate::scenario::is_playing;
-use model::refusals::{OUTSIDE_RANGE, WRONG_PLAYING};
+use model::refusals::{OUTSIDE_RANGE, Refusal, WRONG_PLAYING, refuse};
 
 // Reads a playing of the jobs of k rows.
-pub fn admit(rows: &[u32], k: usize, playing: &[u8]) -> Admission
+pub fn admit(rows: &[u32], k: usize, playing: &[u8]) -> Result<(), Refusal>
     requires { Rows rows.now k × (k ≤ most_jobs) }
     ensures { result ≡ admission_of (scenario_for (jobs_of_rows rows.now k) playing.now) }
 {
     if !is_playing(playing, k) {
-        return Admission::Refused(WRONG_PLAYING, 0);
+        return refuse(WRONG_PLAYING, 0);
     }
-    let outside = first_outside(rows, k, playing);
-    if outside < k {
-        return Admission::Refused(OUTSIDE_RANGE, outside);
+    match first_outside(rows, k, playing) {
+        Some(i) => refuse(OUTSIDE_RANGE, i),
+        None => Ok(()),
     }
-    Admission::Admitted
 }

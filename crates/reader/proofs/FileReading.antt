@@ -28,7 +28,7 @@ use Rattle.records.specs.internal.Answers.{reading_of}
 use Rattle.reader.specs.internal.Parts.{header_of, shift_of, body_of}
 use Rattle.records.specs.internal.Filling.{list_of, bells_held, BellTable, HoldsBells, HoldsNotes}
 use Rattle.reader.specs.internal.Filling.{Filled, counts_in}
-use Rattle.records.specs.declared.answers.Reading.TheVariants.{Refused}
+use Rattle.std.specs.Prelude.{Err}
 
 -- ---- the header
 
@@ -257,7 +257,7 @@ module _ (row : Row) (s : List ℕ) where
 -- ---- the table
 
 -- A refusal leaves nothing to be held.
-pub refused_filled : (o : Outcome Phrase) (n at : ℕ) (t : List ℕ) → o ≡ refused n at → (Refused n at ≡ reading_of o) × Filled o t
+pub refused_filled : (o : Outcome Phrase) (n at : ℕ) (t : List ℕ) → o ≡ refused n at → (Err (record { number = n; place = at }) ≡ reading_of o) × Filled o t
 refused_filled o n at t e = (ap reading_of (sym e), subst (λ (o : Outcome Phrase). Filled o t) (sym e) none)
   where
     none : Filled (refused n at) t

@@ -14,11 +14,13 @@ use Rattle.words.specs.internal.Placed.{placed}
 use Rattle.format.specs.Bytes.{byte_at, number}
 use Rattle.format.specs.Layout.{first, most_bells, is_note_length}
 use Rattle.format.specs.Outcome.{Outcome, ok, refused}
-use Rattle.format.specs.Phrase.{Bell, Note}
+use Rattle.format.specs.Phrase.{Bell, Note, find}
+use Rattle.format.specs.Rules.{are_times}
 use Rattle.format.specs.Jobs.{struck}
 use Rattle.format.specs.Reading.{note_in, note_record, notes_from, notes_in}
 use Rattle.format.proofs.Passed.{required}
 use Rattle.format.proofs.Digits.{number_one}
+use Rattle.format.proofs.First.{note_key, note_earliest, note_latest, note_deadline}
 use Rattle.format.proofs.Given.{note_passed}
 use Rattle.format.proofs.Versions.{notes_from_holds}
 use Rattle.format.proofs.Steps.{more_notes, stop_notes}
@@ -30,9 +32,22 @@ use Rattle.fields.specs.declared.layout.Layout.{Layout as Row}
 use Rattle.fields.specs.internal.Layouts.{layout_of}
 use Rattle.fields.specs.internal.NoteRecord.{WholeNote}
 use Rattle.fields.proofs.ListedJobs.{listed_few}
+use Rattle.std.specs.Prelude.{Option as RustOption}
+use Rattle.records.specs.internal.Answers.{found_of}
 use Rattle.records.specs.internal.Filling.{bells_held, BellTable, HoldsBells, HoldsNotes}
 
 -- ---- a record
+
+module _ (p : List ℕ) where
+  -- The times that were read are those of the note.
+  pub times_read : {earliest latest deadline : ℕ} → earliest ≡ number 4 2 p → latest ≡ number 4 6 p → deadline ≡ number 4 10 p
+      → are_times earliest latest deadline ≡ are_times (note_in first p).earliest_release (note_in first p).latest_release (note_in first p).deadline
+  times_read e l d = λ i. are_times ((e ∙ sym (note_earliest p)) i) ((l ∙ sym (note_latest p)) i) ((d ∙ sym (note_deadline p)) i)
+
+  -- What was found by the key that was read is what the key of the note finds.
+  pub key_found : (shift : ℕ) (bells : List Bell) {key : ℕ} {found : RustOption ℕ} → key ≡ number 1 1 p → found ≡ found_of (find key shift bells)
+      → found_of (find (note_in first p).key shift bells) ≡ found
+  key_found shift bells k e = sym (e ∙ ap (λ (j : ℕ). found_of (find j shift bells)) (k ∙ number_one 1 p ∙ sym (note_key p)))
 
 -- A note that was read has a record that is there, and is the note of its fields.
 pub record_is : (shift : ℕ) (bells : List Bell) (own at : ℕ) (p : List ℕ) (n : Note) → note_record first shift bells own at p ≡ ok n → WholeNote p × (note_in first p ≡ n)

@@ -4,39 +4,30 @@ ghost use Rattle.words.specs.internal.Placed.{placed};
 ghost use Rattle.format.specs.Layout.{bell_bytes, most_bells, longest_file};
 ghost use Rattle.format.specs.Phrase.{sounding, find_sounding, find};
 ghost use Rattle.format.specs.Reading.{bell_in, bell_record, bells_from, bells_in};
-ghost use Rattle.format.specs.internal.Sized.{Sized};
 ghost use Rattle.fields.specs.internal.Layouts.{layout_of};
 ghost use Rattle.rows.specs.BellRow.{bell_words, bell_row};
 ghost use Rattle.rows.specs.PhraseTable.{bell_rows_at, phrase_words};
 ghost use Rattle.records.specs.internal.Answers.{found_of, reading_of};
 ghost use Rattle.records.specs.internal.Filling.{list_of, bells_held, BellTable, bell_put, HoldsBells};
 
-use crate::answers::{Found, Reading};
 use fields::bells::{is_in_range, sounding_key, write_bell};
 use fields::bytes::byte;
-use fields::layout::{Layout, bell_bytes, bell_count_at, bells_at};
+use fields::layout::Layout;
 use fields::rules::{is_within, transposed};
-use model::refusals::{DOUBLED_KEY, WRONG_BELL, WRONG_BELL_COUNT, WRONG_END};
+use model::refusals::{DOUBLED_KEY, Refusal, WRONG_BELL, WRONG_BELL_COUNT, WRONG_END, refuse};
 use rows::bell::{BELL_WORDS, SOUNDING};
 use rows::{BELL_ROWS, MOST_BELLS};
 
 // The first of the first n bells that sounds for the key.
-fn find_sounding(phrase: &[u32], n: usize, key: u32) -> Found
+fn find_sounding(phrase: &[u32], n: usize, key: u32) -> Option<u32>
     requires { (n ≤ most_bells) × (phrase_words ≤ length phrase.now) × BellTable phrase.now n }
     ensures { result ≡ found_of (find_sounding key (bells_held phrase.now n)) }
 {
-    let mut i = 0;
-    while i < n {
-        if phrase[BELL_ROWS + (i * BELL_WORDS + SOUNDING)] == key {
-            return Found::At(i as u32);
-        }
-        i += 1;
-    }
-    Found::Nothing
+    (0..n as u32).find(|&i| phrase[BELL_ROWS + (i as usize * BELL_WORDS + SOUNDING)] == key)
 }
 
 // The look-up of a bell: the first of the first n that sounds for the key of a note, moved by the shift.
-pub fn find_bell(phrase: &[u32], n: usize, key: u32, shift: u32) -> Found
+pub fn find_bell(phrase: &[u32], n: usize, key: u32, shift: u32) -> Option<u32>
     requires { (n ≤ most_bells) × (phrase_words ≤ length phrase.now) × BellTable phrase.now n × (key < 256) × (shift < 256) }
     ensures { result ≡ found_of (find key shift (bells_held phrase.now n)) }
 {
@@ -45,7 +36,7 @@ pub fn find_bell(phrase: &[u32], n: usize, key: u32, shift: u32) -> Found
 
 // Writes row i.
 fn put_bell(part: &[u8], l: Layout, key: u32, phrase: &mut [u32], i: usize)
-    requires { Sized (layout_of l) × (bell_bytes (layout_of l) ≤ length part.now) × (key ≡ sounding (bell_in (layout_of l) part.now))
+    requires { (bell_bytes (layout_of l) ≤ length part.now) × (key ≡ sounding (bell_in (layout_of l) part.now))
         × (i < most_bells) × (phrase_words ≤ length phrase.old) }
     ensures { phrase.new
         ≡ placed phrase.old (bell_rows_at + i * bell_words) (bell_row (bell_in (layout_of l) part.now)) }
@@ -56,60 +47,60 @@ fn put_bell(part: &[u8], l: Layout, key: u32, phrase: &mut [u32], i: usize)
 }
 
 // One bell record, from the part of the file that begins at it, after i bells.
-fn read_bell(part: &[u8], l: Layout, at: usize, phrase: &mut [u32], i: usize) -> Reading
-    requires { Sized (layout_of l) × (i < most_bells) × (phrase_words ≤ length phrase.old) × BellTable phrase.old i }
+fn read_bell(part: &[u8], l: Layout, at: usize, phrase: &mut [u32], i: usize) -> Result<(), Refusal>
+    requires { (i < most_bells) × (phrase_words ≤ length phrase.old) × BellTable phrase.old i }
     ensures value { result ≡ reading_of (bell_record (layout_of l) (bells_held phrase.old i) at part.now) }
     ensures phrase_after { phrase.new
         ≡ bell_put (bell_record (layout_of l) (bells_held phrase.old i) at part.now) phrase.old i }
 {
-    if part.len() < bell_bytes(l) {
-        return Reading::Refused(WRONG_END, at);
+    if part.len() < l.bell_bytes() {
+        return refuse(WRONG_END, at);
     }
     let key = sounding_key(part, l);
     if !is_in_range(part, l) {
-        return Reading::Refused(WRONG_BELL, at);
+        return refuse(WRONG_BELL, at);
     }
-    let found = find_sounding(phrase, i, key);
-    if let Found::At(_) = found {
-        return Reading::Refused(DOUBLED_KEY, at);
+    if find_sounding(phrase, i, key).is_some() {
+        return refuse(DOUBLED_KEY, at);
     }
     put_bell(part, l, key, phrase, i);
-    Reading::Whole
+    Ok(())
 }
 
 // The first n bells, from `start` on, in rows from the first on.
-fn bells_from(file: &[u8], l: Layout, start: usize, n: usize, phrase: &mut [u32]) -> Reading
-    requires { Sized (layout_of l) × (start ≤ length file.now) × (start ≤ longest_file) × (n ≤ most_bells) × (phrase_words ≤ length phrase.old) }
+fn bells_from(
+    file: &[u8],
+    l: Layout,
+    start: usize,
+    n: usize,
+    phrase: &mut [u32],
+) -> Result<(), Refusal>
+    requires { (start ≤ length file.now) × (start ≤ longest_file) × (n ≤ most_bells) × (phrase_words ≤ length phrase.old) }
     ensures value { result ≡ reading_of (bells_from (layout_of l) file.now n start []) }
     ensures holds_bells { HoldsBells (list_of (bells_from (layout_of l) file.now n start [])) phrase.new }
 {
-    let size = bell_bytes(l);
+    let size = l.bell_bytes();
     let mut at = start;
-    let mut i = 0;
-    while i < n {
-        let answer = read_bell(&file[at..], l, at, phrase, i);
-        let Reading::Whole = answer else {
-            return answer;
-        };
+    for i in 0..n {
+        read_bell(&file[at..], l, at, phrase, i)?;
         at += size;
-        i += 1;
     }
-    Reading::Whole
+    Ok(())
 }
 
 // The bell count and the bells, whose rows are in the table once they are read.
-pub fn read_bells(file: &[u8], l: Layout, phrase: &mut [u32]) -> Reading
-    requires { Sized (layout_of l) × (phrase_words ≤ length phrase.old) }
+pub fn read_bells(file: &[u8], l: Layout, phrase: &mut [u32]) -> Result<(), Refusal>
+    requires { phrase_words ≤ length phrase.old }
     ensures value { result ≡ reading_of (bells_in (layout_of l) file.now) }
     ensures holds_bells { HoldsBells (list_of (bells_in (layout_of l) file.now)) phrase.new }
 {
-    let at = bell_count_at(l);
+    let at = l.bell_count_at();
     if file.len() <= at {
-        return Reading::Refused(WRONG_END, at);
+        return refuse(WRONG_END, at);
     }
     let count = byte(file, at);
     if !is_within(1, MOST_BELLS as u32, count) {
-        return Reading::Refused(WRONG_BELL_COUNT, at);
+        return refuse(WRONG_BELL_COUNT, at);
     }
-    bells_from(file, l, bells_at(l), count as usize, phrase)
+    bells_from(file, l, l.bells_at(), count as usize, phrase)
 }

@@ -6,7 +6,6 @@ ghost use Rattle.format.specs.Bytes.{number};
 ghost use Rattle.format.specs.Layout.{first, most_bells, bell_count_at, note_count_at};
 ghost use Rattle.format.specs.Phrase.{Bell, Note, find, is_some};
 ghost use Rattle.format.specs.Rules.{are_times, rises, note_rules};
-ghost use Rattle.format.specs.internal.Sized.{Sized};
 ghost use Rattle.format.specs.Reading.{note_in, note_record, notes_from, notes_in};
 ghost use Rattle.rows.specs.NoteRow.{note_words, note_row_on};
 ghost use Rattle.rows.specs.PhraseTable.{note_rows_at, phrase_words};
@@ -15,17 +14,17 @@ ghost use Rattle.fields.specs.internal.NoteRecord.{WholeNote};
 ghost use Rattle.records.specs.internal.Answers.{reading_of};
 ghost use Rattle.records.specs.internal.Filling.{list_of, bells_held, BellTable, HoldsBells, note_put, HoldsNotes};
 
-use crate::answers::{Found, Reading};
 use crate::bells::find_bell;
 use fields::bytes::{be_32, byte};
 use fields::layout::{
-    DEADLINE_AT, EARLIEST_RELEASE_AT, KEY_AT, LATEST_RELEASE_AT, LENGTH_AT, Layout, note_count_at,
+    DEADLINE_AT, EARLIEST_RELEASE_AT, KEY_AT, LATEST_RELEASE_AT, LENGTH_AT, Layout,
 };
-use fields::notes::{do_rise, is_note_length, write_note};
+use fields::notes::{do_rise, is_note_length, listed_jobs, write_note};
 use fields::rules::are_times;
 use model::limits::MOST_JOBS;
 use model::refusals::{
-    SILENT_KEY, TOO_MANY_NOTES, WRONG_END, WRONG_LISTED, WRONG_NOTE_LENGTH, WRONG_TIMES,
+    Refusal, SILENT_KEY, TOO_MANY_NOTES, WRONG_END, WRONG_LISTED, WRONG_NOTE_LENGTH, WRONG_TIMES,
+    refuse,
 };
 use rows::NOTE_ROWS;
 use rows::note::NOTE_WORDS;
@@ -41,20 +40,20 @@ fn put_note(part: &[u8], bell: u32, phrase: &mut [u32], own: usize)
 }
 
 // The first rule that a note breaks, by what was asked of it: its times (11), then its key (10), then what it lists (12).
-pub fn first_broken(timely: bool, struck: bool, rising: bool, at: usize) -> Reading
+pub fn first_broken(timely: bool, struck: bool, rising: bool, at: usize) -> Result<(), Refusal>
     ensures { (shift : ℕ) (bells : List Bell) (own : ℕ) (n : Note) → timely ≡ are_times n.earliest_release n.latest_release n.deadline
         → struck ≡ is_some (find n.key shift bells) → rising ≡ rises own 0 n.listed → result ≡ reading_of (note_rules shift bells own at n) }
 {
     if !timely {
-        return Reading::Refused(WRONG_TIMES, at);
+        return refuse(WRONG_TIMES, at);
     }
     if !struck {
-        return Reading::Refused(SILENT_KEY, at);
+        return refuse(SILENT_KEY, at);
     }
     if !rising {
-        return Reading::Refused(WRONG_LISTED, at);
+        return refuse(WRONG_LISTED, at);
     }
-    Reading::Whole
+    Ok(())
 }
 
 // The fields of a note record that is there, after `own` notes: their rules, then its row.
@@ -65,8 +64,9 @@ fn note_fields(
     phrase: &mut [u32],
     n: usize,
     own: usize,
-) -> Reading
-    requires { WholeNote part.now × (n ≤ most_bells) × (phrase_words ≤ length phrase.old) × BellTable phrase.old n × (own < most_jobs) × (shift < 256) }
+) -> Result<(), Refusal>
+    requires { WholeNote part.now × (n ≤ most_bells) × (phrase_words ≤ length phrase.old) × BellTable phrase.old n × (own < most_jobs)
+        × (shift < 256) }
     ensures value { result ≡ reading_of (note_rules shift (bells_held phrase.old n) own at (note_in first part.now)) }
     ensures phrase_after { phrase.new ≡ note_put shift (bells_held phrase.old n)
         (note_rules shift (bells_held phrase.old n) own at (note_in first part.now)) phrase.old own }
@@ -75,17 +75,14 @@ fn note_fields(
     let latest = be_32(part, LATEST_RELEASE_AT);
     let deadline = be_32(part, DEADLINE_AT);
     let timely = are_times(earliest, latest, deadline);
-    let rising = do_rise(part, own as u32);
+    let rising = do_rise(listed_jobs(part), own as u32);
     let key = byte(part, KEY_AT);
-    let Found::At(bell) = find_bell(phrase, n, key, shift) else {
+    let Some(bell) = find_bell(phrase, n, key, shift) else {
         return first_broken(timely, false, rising, at);
     };
-    let answer = first_broken(timely, true, rising, at);
-    let Reading::Whole = answer else {
-        return answer;
-    };
+    first_broken(timely, true, rising, at)?;
     put_note(part, bell, phrase, own);
-    Reading::Whole
+    Ok(())
 }
 
 // One note record, from the part of the file that begins at its length byte, after `own` notes.
@@ -96,21 +93,21 @@ fn read_note(
     phrase: &mut [u32],
     n: usize,
     own: usize,
-) -> Reading
+) -> Result<(), Refusal>
     requires { (n ≤ most_bells) × (phrase_words ≤ length phrase.old) × BellTable phrase.old n × (own < most_jobs) × (shift < 256) }
     ensures value { result ≡ reading_of (note_record first shift (bells_held phrase.old n) own at part.now) }
     ensures phrase_after { phrase.new ≡ note_put shift (bells_held phrase.old n)
         (note_record first shift (bells_held phrase.old n) own at part.now) phrase.old own }
 {
     if part.len() < 1 {
-        return Reading::Refused(WRONG_END, at);
+        return refuse(WRONG_END, at);
     }
     let size = byte(part, LENGTH_AT);
     if !is_note_length(size) {
-        return Reading::Refused(WRONG_NOTE_LENGTH, at);
+        return refuse(WRONG_NOTE_LENGTH, at);
     }
     if part.len() <= size as usize {
-        return Reading::Refused(WRONG_END, at);
+        return refuse(WRONG_END, at);
     }
     note_fields(part, at, shift, phrase, n, own)
 }
@@ -123,7 +120,7 @@ fn notes_from(
     shift: u32,
     phrase: &mut [u32],
     n: usize,
-) -> Reading
+) -> Result<(), Refusal>
     requires { (start ≤ length file.now) × (count ≤ most_jobs) × (n ≤ most_bells) × (phrase_words ≤ length phrase.old) × BellTable phrase.old n
         × (shift < 256) }
     ensures value { result ≡ reading_of (notes_from first file.now shift (bells_held phrase.old n) count start []) }
@@ -132,36 +129,38 @@ fn notes_from(
         (list_of (notes_from first file.now shift (bells_held phrase.old n) count start [])) phrase.new }
 {
     let mut at = start;
-    let mut i = 0;
-    while i < count {
-        let answer = read_note(&file[at..], at, shift, phrase, n, i);
-        let Reading::Whole = answer else {
-            return answer;
-        };
+    for i in 0..count {
+        read_note(&file[at..], at, shift, phrase, n, i)?;
         at += 1 + byte(file, at) as usize;
-        i += 1;
     }
     if at < file.len() {
-        return Reading::Refused(WRONG_END, at);
+        return refuse(WRONG_END, at);
     }
-    Reading::Whole
+    Ok(())
 }
 
 // The note count and the notes, whose rows are in the table once they are read. `n` is the file's bell count.
-pub fn read_notes(file: &[u8], l: Layout, shift: u32, phrase: &mut [u32], n: usize) -> Reading
-    requires { Sized (layout_of l) × (shift < 256) × (n ≡ number 1 (bell_count_at (layout_of l)) file.now) × (n ≤ most_bells) × (phrase_words ≤ length phrase.old) × BellTable phrase.old n }
+pub fn read_notes(
+    file: &[u8],
+    l: Layout,
+    shift: u32,
+    phrase: &mut [u32],
+    n: usize,
+) -> Result<(), Refusal>
+    requires { (shift < 256) × (n ≡ number 1 (bell_count_at (layout_of l)) file.now) × (n ≤ most_bells) × (phrase_words ≤ length phrase.old)
+        × BellTable phrase.old n }
     ensures value { result ≡ reading_of (notes_in (layout_of l) file.now shift (bells_held phrase.old n) (note_count_at (layout_of l) n)) }
     ensures holds_bells { HoldsBells (bells_held phrase.old n) phrase.new }
     ensures holds_notes { HoldsNotes shift (bells_held phrase.old n)
         (list_of (notes_in (layout_of l) file.now shift (bells_held phrase.old n) (note_count_at (layout_of l) n))) phrase.new }
 {
-    let at = note_count_at(l, n);
+    let at = l.note_count_at(n);
     if file.len() <= at {
-        return Reading::Refused(WRONG_END, at);
+        return refuse(WRONG_END, at);
     }
     let count = byte(file, at) as usize;
     if MOST_JOBS < count {
-        return Reading::Refused(TOO_MANY_NOTES, at);
+        return refuse(TOO_MANY_NOTES, at);
     }
     notes_from(file, at + 1, count, shift, phrase, n)
 }

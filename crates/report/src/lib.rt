@@ -27,12 +27,11 @@ pub struct Reported {
 }
 
 // How long the text is.
-fn text_length(phrase: &[u32; PHRASE_WORDS], checked: Checked) -> usize
-    requires { Composable phrase.now checked.jobs }
-    ensures { (result ≡ length (text_in checked.answer checked phrase.now)) × (result ≤ longest_text) }
+fn text_length(phrase: &[u32; PHRASE_WORDS], checked: &Checked) -> usize
+    requires { Composable phrase.now checked.now.jobs }
+    ensures { (result ≡ length (text_in checked.now.answer checked.now phrase.now)) × (result ≤ longest_text) }
 {
-    let answer = checked.answer;
-    match answer {
+    match checked.answer {
         Answer::Accepted => accepted_length(phrase, checked),
         Answer::Refused(number, place) => refused_length(number, place),
         Answer::Late(job, earliest, latest) => late_length(job, earliest, latest),
@@ -40,12 +39,11 @@ fn text_length(phrase: &[u32; PHRASE_WORDS], checked: Checked) -> usize
 }
 
 // Writes the text from the start of a buffer on.
-fn put_text(text: &mut [u8], phrase: &[u32; PHRASE_WORDS], checked: Checked) -> usize
-    requires { Composable phrase.now checked.jobs × Room text.old 0 (text_in checked.answer checked phrase.now) }
-    ensures { Written text.old 0 (text_in checked.answer checked phrase.now) text.new result }
+fn put_text(text: &mut [u8], phrase: &[u32; PHRASE_WORDS], checked: &Checked) -> usize
+    requires { Composable phrase.now checked.now.jobs × Room text.old 0 (text_in checked.now.answer checked.now phrase.now) }
+    ensures { Written text.old 0 (text_in checked.now.answer checked.now phrase.now) text.new result }
 {
-    let answer = checked.answer;
-    match answer {
+    match checked.answer {
         Answer::Accepted => put_accepted(text, phrase, checked),
         Answer::Refused(number, place) => put_refused(text, number, place),
         Answer::Late(job, earliest, latest) => put_late(text, job, earliest, latest),
@@ -58,14 +56,14 @@ fn deliver(text: &mut [u8], phrase: &[u32; PHRASE_WORDS], checked: Checked) -> R
     ensures value { result ≡ reported_in checked (text_in checked.answer checked phrase.now) text.old }
     ensures text_after { text.new ≡ delivered (text_in checked.answer checked phrase.now) text.old }
 {
-    let needed = text_length(phrase, checked);
+    let needed = text_length(phrase, &checked);
     if text.len() < needed {
         return Reported {
             checked: refused(Answer::Refused(SHORT_BUFFER, 0)),
             length: 0,
         };
     }
-    let length = put_text(text, phrase, checked);
+    let length = put_text(text, phrase, &checked);
     Reported { checked, length }
 }
 

@@ -12,7 +12,6 @@ ghost use Rattle.results.specs.internal.Finishes.{Released, response_of, Finishe
 use checking::{Answer, Checked};
 use jobs::earliest_release;
 use model::limits::MOST_JOBS;
-use words::copy;
 
 // The finish times of all jobs that begin at a word.
 fn finish_times(seen: &[u32], at: usize) -> [u32; MOST_JOBS]
@@ -21,7 +20,7 @@ fn finish_times(seen: &[u32], at: usize) -> [u32; MOST_JOBS]
 {
     let mut finishes = [0u32; MOST_JOBS];
     let end = at + MOST_JOBS;
-    copy(&mut finishes, &seen[at..end]);
+    finishes.copy_from_slice(&seen[at..end]);
     finishes
 }
 
@@ -31,10 +30,8 @@ fn responses(rows: &[u32], k: usize, finishes: &[u32; MOST_JOBS]) -> [u32; MOST_
     ensures { result ≡ per_job k (response_of rows.now k finishes.now) }
 {
     let mut words = [0u32; MOST_JOBS];
-    let mut i = 0;
-    while i < k {
+    for i in 0..k {
         words[i] = finishes[i] - earliest_release(rows, k, i);
-        i += 1;
     }
     words
 }

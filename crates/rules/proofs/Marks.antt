@@ -11,7 +11,7 @@ use lib.Seq.{get_or-set_same, get_or-set_other}
 use borrow.Author.Tests.{eq-eqb, eqb-true}
 use Rattle.model.proofs.Booleans.{cases}
 use Rattle.format.specs.Phrase.{Bell, sounding, find_from, find_sounding, is_some}
-use Rattle.rules.specs.internal.Asking.{mark, Sounded}
+use Rattle.rules.specs.internal.Asking.{Sounded}
 
 -- What is told to be there is there.
 pub some_there : (o : Option ℕ) → is_some o ≡ true → (k : ℕ) × (o ≡ some k)
@@ -23,23 +23,15 @@ pub none_there : (o : Option ℕ) → is_some o ≡ false → o ≡ none
 none_there (some k) e = absurd (true≢false e)
 none_there none e = refl
 
-marked : (t : Bool) → eqb (mark t) 1 ≡ t
-marked true = refl
-marked false = refl
-
--- A mark tells whether a bell sounds for its key.
-pub mark_tells : (bells : List Bell) (marks : List ℕ) → Sounded bells marks → (key : ℕ) → eqb (get_or marks key 0) 1 ≡ is_some (find_sounding key bells)
-mark_tells bells marks s key = ap (λ (m : ℕ). eqb m 1) (s key) ∙ marked (is_some (find_sounding key bells))
-
-zeros : (n key : ℕ) → ◌≡◌ {A = ℕ} (get_or (replicate n 0) key 0) 0
-zeros zero key = refl
-zeros (suc n) zero = refl
-zeros (suc n) (suc key) = zeros n key
+unmarked : (n key : ℕ) → get_or (replicate n false) key false ≡ false
+unmarked zero key = refl
+unmarked (suc n) zero = refl
+unmarked (suc n) (suc key) = unmarked n key
 
 -- Without bells there is no mark.
-pub sounded_none : (n : ℕ) → Sounded [] (replicate n 0)
+pub sounded_none : (n : ℕ) → Sounded [] (replicate n false)
 unfolding find_from
-sounded_none n key = zeros n key
+sounded_none n key = unmarked n key
 
 -- ---- one bell more
 
@@ -66,21 +58,21 @@ or_false true = refl
 or_false false = refl
 
 -- The key of one bell more is marked.
-pub sounded_more : (bells : List Bell) (b : Bell) (marks : List ℕ) → Sounded bells marks → sounding b < length marks
-    → Sounded (bells ++ b ∷ []) (set marks (sounding b) 1)
+pub sounded_more : (bells : List Bell) (b : Bell) (marks : List Bool) → Sounded bells marks → sounding b < length marks
+    → Sounded (bells ++ b ∷ []) (set marks (sounding b) true)
 sounded_more bells b marks s h key = go (cases (eqb (sounding b) key))
   where
     there : is_some (find_sounding key (bells ++ b ∷ [])) ≡ (is_some (find_sounding key bells) || eqb (sounding b) key)
     there = found_more key 0 bells b
 
-    go : (eqb (sounding b) key ≡ true) ⊎ (eqb (sounding b) key ≡ false) → get_or (set marks (sounding b) 1) key 0 ≡ mark (is_some (find_sounding key (bells ++ b ∷ [])))
+    go : (eqb (sounding b) key ≡ true) ⊎ (eqb (sounding b) key ≡ false) → get_or (set marks (sounding b) true) key false ≡ is_some (find_sounding key (bells ++ b ∷ []))
     go (inl e) =
         let same : sounding b ≡ key = eqb-true (sounding b) key e in
-        let one : get_or (set marks (sounding b) 1) key 0 ≡ 1 =
-        ap (λ (k : ℕ). get_or (set marks (sounding b) 1) k 0) (sym same) ∙ get_or-set_same marks (sounding b) 1 0 h in
-        one ∙ ap mark (sym (there ∙ ap (λ (t : Bool). is_some (find_sounding key bells) || t) e ∙ or_true (is_some (find_sounding key bells))))
+        let one : get_or (set marks (sounding b) true) key false ≡ true =
+        ap (λ (k : ℕ). get_or (set marks (sounding b) true) k false) (sym same) ∙ get_or-set_same marks (sounding b) true false h in
+        one ∙ sym (there ∙ ap (λ (t : Bool). is_some (find_sounding key bells) || t) e ∙ or_true (is_some (find_sounding key bells)))
     go (inr e) =
         let other : key ≡ sounding b → ⊥ = λ q. true≢false (sym (eq-eqb (sounding b) key (sym q)) ∙ e) in
-        get_or-set_other marks (sounding b) key 1 0 other
+        get_or-set_other marks (sounding b) key true false other
         ∙ s key
-        ∙ ap mark (sym (there ∙ ap (λ (t : Bool). is_some (find_sounding key bells) || t) e ∙ or_false (is_some (find_sounding key bells))))
+        ∙ sym (there ∙ ap (λ (t : Bool). is_some (find_sounding key bells) || t) e ∙ or_false (is_some (find_sounding key bells)))

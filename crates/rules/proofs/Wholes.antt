@@ -33,11 +33,6 @@ module _ (l : Layout) (x : Phrase) where
   notes_asked : List Bell → Outcome (List Note)
   notes_asked bells = all_notes l x.shift bells x.notes (note_count_at l (length x.bells))
 
-  -- Bells that are refused end it.
-  pub bells_stop : (n at : ℕ) → all_bells l x.bells ≡ refused n at → body_asked l x ≡ refused n at
-  unfolding notes_asked
-  bells_stop n at e = ap (λ (o : Outcome (List Bell)). ◌>>=◌ o notes_asked) e
-
   -- After bells that pass the notes are asked.
   pub bells_done : (c : List Bell) → all_bells l x.bells ≡ ok c
       → body_asked l x ≡ all_notes l x.shift x.bells x.notes (note_count_at l (length x.bells))

@@ -1,31 +1,28 @@
 // The rules of the bells of a phrase in words.
-ghost use Rattle.std.specs.Prelude.{◌≡◌, List, [], ◌∷◌, ◌++◌, ◌≤◌, ◌<◌, length, drop};
+ghost use Rattle.std.specs.Prelude.{◌≡◌, List, [], ◌∷◌, ◌++◌, ◌≤◌, ◌<◌, length, drop, Ok};
 ghost use Rattle.format.specs.Layout.{most_bells, longest_file};
 ghost use Rattle.format.specs.Phrase.{Bell};
 ghost use Rattle.format.specs.Rules.{highest_key, bell_rules, bells_rules, all_bells};
-ghost use Rattle.format.specs.internal.Sized.{Sized};
 ghost use Rattle.fields.specs.internal.Layouts.{layout_of};
 ghost use Rattle.rows.specs.BellRow.{bell_words, bell_of_row, bells_of_rows};
 ghost use Rattle.rows.specs.PhraseTable.{bell_rows_at, phrase_words, phrase_of};
 ghost use Rattle.records.specs.internal.Answers.{reading_of};
-ghost use Rattle.records.specs.declared.answers.Reading.TheVariants.{Whole};
 ghost use Rattle.rules.specs.internal.Asking.{Sounded};
 
 use crate::sounded::is_sounded;
-use fields::layout::{Layout, bell_bytes, bell_count_at, bells_at};
+use fields::layout::Layout;
 use fields::rules::{is_bell, is_within, transposed};
-use model::refusals::{DOUBLED_KEY, WRONG_BELL, WRONG_BELL_COUNT};
-use records::answers::Reading;
+use model::refusals::{DOUBLED_KEY, Refusal, WRONG_BELL, WRONG_BELL_COUNT, refuse};
 use rows::bell::{
     BELL_WORDS, LEAST_EXECUTION, MOST_EXECUTION, PRIORITY, REST, TRANSPOSITION, WRITTEN,
 };
 use rows::{BELL_COUNT, BELL_ROWS, MOST_BELLS, PHRASE_WORDS};
 
 // The rules of the bell of a row, whose key is marked if it passes.
-fn ask_bell(row: &[u32], l: Layout, at: usize, sounded: &mut [u8]) -> Reading
-    requires { Sized (layout_of l) × (length row.now ≡ bell_words) × (highest_key < length sounded.old) }
+fn ask_bell(row: &[u32], l: Layout, at: usize, sounded: &mut [bool]) -> Result<(), Refusal>
+    requires { (length row.now ≡ bell_words) × (highest_key < length sounded.old) }
     ensures value { (before : List Bell) → Sounded before sounded.old → result ≡ reading_of (bell_rules (layout_of l) before at (bell_of_row row.now)) }
-    ensures sounded { result ≡ Whole → (before : List Bell) → Sounded before sounded.old
+    ensures sounded { result ≡ Ok tt → (before : List Bell) → Sounded before sounded.old
         → Sounded (before ++ bell_of_row row.now ∷ []) sounded.new }
 {
     let written = row[WRITTEN];
@@ -39,47 +36,52 @@ fn ask_bell(row: &[u32], l: Layout, at: usize, sounded: &mut [u8]) -> Reading
         row[REST],
         row[PRIORITY],
     ) {
-        return Reading::Refused(WRONG_BELL, at);
+        return refuse(WRONG_BELL, at);
     }
     let key = transposed(written, transposition);
     if is_sounded(sounded, key) {
-        return Reading::Refused(DOUBLED_KEY, at);
+        return refuse(DOUBLED_KEY, at);
     }
-    sounded[key as usize] = 1;
-    Reading::Whole
+    sounded[key as usize] = true;
+    Ok(())
 }
 
 // The rules of the first n bells, from `start` on.
-fn bells_from(phrase: &[u32], l: Layout, start: usize, n: usize, sounded: &mut [u8]) -> Reading
-    requires { Sized (layout_of l) × (phrase_words ≤ length phrase.now) × (start ≤ longest_file) × (n ≤ most_bells)
+fn bells_from(
+    phrase: &[u32],
+    l: Layout,
+    start: usize,
+    n: usize,
+    sounded: &mut [bool],
+) -> Result<(), Refusal>
+    requires { (phrase_words ≤ length phrase.now) × (start ≤ longest_file) × (n ≤ most_bells)
         × (highest_key < length sounded.old) × Sounded [] sounded.old }
     ensures value { result ≡ reading_of (bells_rules (layout_of l) (bells_of_rows (drop bell_rows_at phrase.now) n) start []) }
-    ensures sounded { result ≡ Whole → Sounded (bells_of_rows (drop bell_rows_at phrase.now) n) sounded.new }
+    ensures sounded { result ≡ Ok tt → Sounded (bells_of_rows (drop bell_rows_at phrase.now) n) sounded.new }
 {
-    let width = bell_bytes(l);
+    let width = l.bell_bytes();
     let mut at = start;
-    let mut i = 0;
-    while i < n {
+    for i in 0..n {
         let from = BELL_ROWS + i * BELL_WORDS;
-        let answer = ask_bell(&phrase[from..from + BELL_WORDS], l, at, sounded);
-        let Reading::Whole = answer else {
-            return answer;
-        };
+        ask_bell(&phrase[from..from + BELL_WORDS], l, at, sounded)?;
         at += width;
-        i += 1;
     }
-    Reading::Whole
+    Ok(())
 }
 
 // The rules of the bell count and of the bells.
-pub fn ask_bells(phrase: &[u32; PHRASE_WORDS], l: Layout, sounded: &mut [u8]) -> Reading
-    requires { Sized (layout_of l) × (highest_key < length sounded.old) × Sounded [] sounded.old }
+pub fn ask_bells(
+    phrase: &[u32; PHRASE_WORDS],
+    l: Layout,
+    sounded: &mut [bool],
+) -> Result<(), Refusal>
+    requires { (highest_key < length sounded.old) × Sounded [] sounded.old }
     ensures value { result ≡ reading_of (all_bells (layout_of l) (phrase_of phrase.now).bells) }
-    ensures sounded { result ≡ Whole → Sounded (phrase_of phrase.now).bells sounded.new }
+    ensures sounded { result ≡ Ok tt → Sounded (phrase_of phrase.now).bells sounded.new }
 {
     let count = phrase[BELL_COUNT];
     if !is_within(1, MOST_BELLS as u32, count) {
-        return Reading::Refused(WRONG_BELL_COUNT, bell_count_at(l));
+        return refuse(WRONG_BELL_COUNT, l.bell_count_at());
     }
-    bells_from(phrase, l, bells_at(l), count as usize, sounded)
+    bells_from(phrase, l, l.bells_at(), count as usize, sounded)
 }

@@ -1,5 +1,5 @@
-// Which keys the bells sound for, a byte for each key.
-ghost use Rattle.std.specs.Prelude.{◌≡◌, true, suc, eqb, length, get_or};
+// Which keys the bells sound for.
+ghost use Rattle.std.specs.Prelude.{◌≡◌, true, false, suc, length, get_or};
 ghost use Rattle.format.specs.Phrase.{transposed};
 ghost use Rattle.format.specs.Rules.{highest_key, is_transposition};
 
@@ -9,19 +9,16 @@ use fields::rules::transposed;
 pub const KEYS: usize = 120;
 
 // Whether a bell sounds for the key.
-pub fn is_sounded(sounded: &[u8], key: u32) -> bool
-    ensures { result ≡ eqb (get_or sounded.now key 0) 1 }
+pub fn is_sounded(sounded: &[bool], key: u32) -> bool
+    ensures { result ≡ get_or sounded.now key false }
 {
-    if sounded.len() <= key as usize {
-        return false;
-    }
-    sounded[key as usize] == 1
+    sounded.get(key as usize).copied().unwrap_or(false)
 }
 
 // Whether a bell sounds for the key moved by the shift. A key wider than a byte is moved to none of a bell.
-pub fn is_struck(sounded: &[u8], key: u32, shift: u32) -> bool
+pub fn is_struck(sounded: &[bool], key: u32, shift: u32) -> bool
     requires { (length sounded.now ≡ suc highest_key) × (is_transposition shift ≡ true) }
-    ensures { result ≡ eqb (get_or sounded.now (transposed key shift) 0) 1 }
+    ensures { result ≡ get_or sounded.now (transposed key shift) false }
 {
     if 255 < key {
         return false;

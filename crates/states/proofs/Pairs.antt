@@ -1,7 +1,7 @@
 -- Two lists side by side, from an index on. Assumes nothing.
 use Prim.Native.Nat.{ℕ, zero, suc, ◌+◌, ◌≤◌, ◌<◌}
 use mathlib.Core.Path.{◌≡◌, refl, sym, ap, ◌∙◌}
-use mathlib.Core.Bool.{true, false}
+use mathlib.Core.Bool.{Bool, true, false, ◌&&◌, and-false}
 use mathlib.Core.List.{List, [], ◌∷◌, ◌++◌, zip_with, append_assoc, append-nil}
 use native.Mathlib.Nat.{le_of_suc-le-suc, not-suc-le-zero}
 use native.Mathlib.Numerals.{add-one}
@@ -10,32 +10,33 @@ use lib.Dec.{leb}
 use lib.ListN.{length, take, drop, get_or, set, length-set, drop_of_length-le}
 use lib.Seq.{drop-cons, take-suc-set, drop-set-lt, take_all}
 use borrow.Author.Tests.{le-leb, lt-leb}
+use Rattle.std.specs.Bool.{MatchBool}
+use Rattle.std.specs.List.{zip, AllWithin, HoldsAt}
 use Rattle.model.specs.Folds.{every_two}
 use Rattle.words.specs.Tabulate.{tabulate}
 
 -- ---- every element is at most its counterpart
 
-module _ (x y : List ℕ) (i : ℕ) (n : length x ≡ length y) where
-  -- one element that is larger decides
-  pub every_stop : i < length x → get_or y i 0 < get_or x i 0 → every_two leb (drop i x) (drop i y) ≡ false
-  unfolding every_two
-  every_stop h l =
-      let h₂ : i < length y = omega arith in
-      rw (drop-cons x i 0 h, drop-cons y i 0 h₂, lt-leb (get_or x i 0) (get_or y i 0) l)
+all_pairs : (x y : List ℕ) → length x ≡ length y → AllWithin (λ (p : ℕ × ℕ). p.0 ≤ p.1) (zip x y) 0 (length (zip x y)) → every_two leb x y ≡ true
+unfolding every_two
+all_pairs [] [] n h = refl
+all_pairs [] (b ∷ y) n h = absurd (omega arith)
+all_pairs (a ∷ x) [] n h = absurd (omega arith)
+all_pairs (a ∷ x) (b ∷ y) n h = rw (le-leb a b (h 0 (0, 0) (omega arith) (omega arith))) (all_pairs x y (omega arith) (λ k d l u. h (suc k) d (omega arith) (omega arith)))
 
-  -- one that is not leaves the others to decide
-  pub every_on : i < length x → get_or x i 0 ≤ get_or y i 0 → every_two leb (drop i x) (drop i y) ≡ every_two leb (drop (i + 1) x) (drop (i + 1) y)
-  unfolding every_two
-  every_on h l =
-      let h₂ : i < length y = omega arith in
-      rw (add-one, drop-cons x i 0 h, drop-cons y i 0 h₂, le-leb (get_or x i 0) (get_or y i 0) l)
+one_pair : (x y : List ℕ) (k : ℕ) → k < length (zip x y) → HoldsAt (λ (p : ℕ × ℕ). p.1 < p.0) (zip x y) k → every_two leb x y ≡ false
+unfolding every_two
+one_pair [] y k l h = absurd (omega arith)
+one_pair (a ∷ x) [] k l h = absurd (omega arith)
+one_pair (a ∷ x) (b ∷ y) zero l h = rw (lt-leb a b (h (0, 0))) refl
+one_pair (a ∷ x) (b ∷ y) (suc k) l h = ap (λ t. leb a b && t) (one_pair x y k (omega arith) h) ∙ and-false (leb a b)
 
-  -- with none left, all are at most their counterparts
-  pub every_end : length x ≤ i → every_two leb (drop i x) (drop i y) ≡ true
-  unfolding every_two
-  every_end h =
-      let h₂ : length y ≤ i = omega arith in
-      rw (drop_of_length-le x {i = i} h, drop_of_length-le y {i = i} h₂)
+-- a test of all pairs tells whether every element is at most its counterpart
+pub every_tested : (x y : List ℕ) (r : Bool) → length x ≡ length y
+    → MatchBool r (AllWithin (λ (p : ℕ × ℕ). p.0 ≤ p.1) (zip x y) 0 (length (zip x y))) ((k : ℕ) × (k < length (zip x y)) × HoldsAt (λ (p : ℕ × ℕ). p.1 < p.0) (zip x y) k)
+    → r ≡ every_two leb x y
+every_tested x y true n h = sym (all_pairs x y n h)
+every_tested x y false n h = sym (one_pair x y h.0 h.1 h.2)
 
 -- ---- two lists made one, element by element: d₀ and s, where d is d₀ with the elements before index i done
 

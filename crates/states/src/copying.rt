@@ -5,7 +5,6 @@ ghost use Rattle.model.specs.Exploration.{state_words};
 ghost use Rattle.states.specs.internal.Slots.{earliest_at, set_of, state_of};
 
 use crate::sizes::{SET_WORDS, state_words};
-use words::copy;
 
 // Copies the state that begins `src` to the front of `cur`.
 pub fn load_state(cur: &mut [u32], src: &[u32], m: usize, k: usize)
@@ -13,7 +12,7 @@ pub fn load_state(cur: &mut [u32], src: &[u32], m: usize, k: usize)
     ensures { (state_of m k cur.new ≡ state_of m k src.now) × (set_of cur.new ≡ set_of src.now) }
 {
     let w = state_words(m, k);
-    copy(&mut cur[0..w], &src[0..w]);
+    cur[0..w].copy_from_slice(&src[0..w]);
 }
 
 // Copies what comes before the finish times, the set and the availabilities, from the front of `src` to that of `dst`.
@@ -22,5 +21,5 @@ pub fn copy_front(dst: &mut [u32], src: &[u32], m: usize)
     ensures { dst.new ≡ take (earliest_at m) src.now ++ drop (earliest_at m) dst.old }
 {
     let end = SET_WORDS + 2 * m;
-    copy(&mut dst[0..end], &src[0..end]);
+    dst[0..end].copy_from_slice(&src[0..end]);
 }

@@ -1,27 +1,19 @@
 // Two states merged in their words.
-ghost use Rattle.std.specs.Prelude.{◌≡◌, ◌+◌, ◌^◌, ◌≤◌, ◌<◌, min, max, leb, length};
+ghost use Rattle.std.specs.Prelude.{◌≡◌, ◌+◌, ◌^◌, ◌≤◌, ◌<◌, leb, length};
 ghost use mathlib.Core.List.{zip_with};
 ghost use Rattle.model.specs.Folds.{every_two};
 ghost use Rattle.model.specs.Exploration.{mergeable, merge, state_words};
 ghost use Rattle.states.specs.internal.Slots.{set_of, state_of};
 ghost use Rattle.states.specs.internal.Writing.{Widened};
 
-use crate::reading::started_set;
+use crate::reading::{Earliest, End, Latest, started_set};
 use crate::sizes::SET_WORDS;
-use words::{larger, smaller};
 
 fn all_at_most(x: &[u32], y: &[u32]) -> bool
     requires { length x.now ≡ length y.now }
     ensures { result ≡ every_two leb x.now y.now }
 {
-    let mut i = 0;
-    while i < x.len() {
-        if y[i] < x[i] {
-            return false;
-        }
-        i += 1;
-    }
-    true
+    x.iter().zip(y).all(|(a, b)| a <= b)
 }
 
 // Whether two states can merge.
@@ -40,25 +32,13 @@ pub fn can_merge(a: &[u32], b: &[u32], m: usize, k: usize) -> bool
     all_at_most(&b[SET_WORDS..certainly], &a[certainly..finish])
 }
 
-fn lower_to(d: &mut [u32], s: &[u32])
+// Moves one end of the ranges of d out to where those of s end too.
+fn move_ends<E: End>(d: &mut [u32], s: &[u32])
     requires { length d.old ≡ length s.now }
-    ensures { d.new ≡ zip_with min d.old s.now }
+    ensures { d.new ≡ zip_with E.outer_of d.old s.now }
 {
-    let mut i = 0;
-    while i < d.len() {
-        d[i] = smaller(d[i], s[i]);
-        i += 1;
-    }
-}
-
-fn raise_to(d: &mut [u32], s: &[u32])
-    requires { length d.old ≡ length s.now }
-    ensures { d.new ≡ zip_with max d.old s.now }
-{
-    let mut i = 0;
-    while i < d.len() {
-        d[i] = larger(d[i], s[i]);
-        i += 1;
+    for (i, x) in s.iter().enumerate() {
+        d[i] = E::outer(d[i], *x);
     }
 }
 
@@ -69,8 +49,8 @@ fn widen(d: &mut [u32], s: &[u32], a: usize, n: usize)
 {
     let upper = a + n;
     let end = upper + n;
-    lower_to(&mut d[a..upper], &s[a..upper]);
-    raise_to(&mut d[upper..end], &s[upper..end]);
+    move_ends::<Earliest>(&mut d[a..upper], &s[a..upper]);
+    move_ends::<Latest>(&mut d[upper..end], &s[upper..end]);
 }
 
 // Merges state s, in which the same jobs have started, into state d.

@@ -10,7 +10,6 @@ ghost use Rattle.states.specs.internal.Writing.{after_start, OtherFinishesKept};
 
 use crate::reading::{WORD, started_set};
 use crate::sizes::SET_WORDS;
-use words::{larger, smaller};
 
 // A job that starts: when at the earliest, and when it finishes at the earliest and at the latest.
 #[derive(Clone, Copy)]
@@ -26,15 +25,14 @@ fn update_availability(l: &mut [u32], s: u32, f: u32)
     requires { (1 ≤ length l.old) × Sorted l.old }
     ensures { l.new ≡ availability s f l.old }
 {
+    let last = l.len() - 1;
     let mut carried = f;
-    let mut j = 0;
-    while j + 1 < l.len() {
-        let x = larger(s, l[j + 1]);
-        l[j] = smaller(carried, x);
-        carried = larger(carried, x);
-        j += 1;
+    for j in 0..last {
+        let x = s.max(l[j + 1]);
+        l[j] = carried.min(x);
+        carried = carried.max(x);
     }
-    l[j] = carried;
+    l[last] = carried;
 }
 
 // Adds job i, which has not started, with its finish range.

@@ -1,5 +1,6 @@
 -- An edge followed: what the definition makes of it, by the moments that the code has. Assumes nothing.
 use Prim.Native.Nat.{ℕ, zero, suc, ◌+◌, ◌≤◌, ◌<◌}
+use Rattle.std.specs.Prelude.{Option, Some, None, Result, Ok, Err}
 use mathlib.Core.Path.{◌≡◌, refl, sym, ap, ◌∙◌, subst}
 use mathlib.Core.Bool.{Bool, true, false, cond, ◌&&◌}
 use mathlib.Core.List.{List, [], ◌∷◌, foldl, foldl-append}
@@ -7,12 +8,11 @@ use native.Mathlib.Omega.{arith}
 use lib.Dec.{leb}
 use lib.ListN.{get_or, length, take, drop, take-append-drop}
 use lib.Seq.{take_all}
-use borrow.Author.Tests.{lt-ltb, le-ltb}
 use Rattle.model.specs.Jobs.{Job, job}
 use Rattle.model.specs.Folds.{ind}
 use Rattle.model.specs.States.{Range, empty, range, is_range, State, started, level}
 use Rattle.model.specs.Edges.{candidate, is_below, earliest_start, earliest_finish, work_conserving_bound, higher_priority_bound, eligible, latest_finish, successor}
-use Rattle.model.specs.Exploration.{Exploration, going, full, miss, limited, stored, add_edge, try_job, try_jobs}
+use Rattle.model.specs.Exploration.{Exploration, going, full, miss, add_edge, try_job, try_jobs}
 use Rattle.model.proofs.Booleans.{and_left}
 use Rattle.model.proofs.Folds.{count_set}
 use Rattle.model.proofs.Starts.{candidate_out}
@@ -24,37 +24,35 @@ use Rattle.states.specs.declared.starting.JobStart.{JobStart}
 use Rattle.words.proofs.Tabulate.{length_tabulate}
 use Rattle.states.specs.internal.Slots.{range_at, state_of, states_of}
 use Rattle.states.specs.internal.Writing.{with_start, after_start}
-use Rattle.edges.specs.declared.Edge.{Edge}
-use Rattle.edges.specs.declared.Edge.TheVariants.{NotEligible, Starts}
 use Rattle.edges.specs.internal.Edges.{start_of, edge_of, candidates}
 use Rattle.edges.proofs.Listing.{fold_listed, fold_turn}
 use Rattle.steps.specs.internal.Observed.{observed_of, Observed}
 use Rattle.steps.specs.internal.Progress.{going_in, progress_of, HalfAt, Leaves, Follows, observed_by, followed}
 use Rattle.steps.specs.declared.shape.Shape.{Shape}
-use Rattle.steps.specs.declared.progress.Progress.{Progress}
-use Rattle.steps.specs.declared.progress.Progress.TheVariants.{Going, Full, Late}
+use Rattle.steps.specs.declared.stop.Stop.{Stop}
+use Rattle.steps.specs.declared.stop.Stop.TheVariants.{Full, Late}
 
 -- ---- an edge that was found
 
 module _ (js : List Job) (σ : State) (i : ℕ) where
   -- an edge that was found is that of the job, which is eligible, with its moments
-  pub edge_follows : (x : JobStart) → edge_of js σ i ≡ Starts x → (x.job ≡ i) × Follows js σ x
+  pub edge_follows : (x : JobStart) → edge_of js σ i ≡ Some x → (x.job ≡ i) × Follows js σ x
   unfolding edge_of
   edge_follows x = go (eligible js σ i) refl
     where
-      go : (b : Bool) → eligible js σ i ≡ b → cond b (Starts (start_of js σ i)) NotEligible ≡ Starts x → (x.job ≡ i) × Follows js σ x
+      go : (b : Bool) → eligible js σ i ≡ b → cond b (Some (start_of js σ i)) None ≡ Some x → (x.job ≡ i) × Follows js σ x
       go true q e =
           let same : start_of js σ i ≡ x = cc in
           subst (λ (y : JobStart). (y.job ≡ i) × Follows js σ y) same (refl, record { starts = q; start = refl; earliest = refl; latest = refl })
       go false q e = let z : ◌≡◌ {A = ℕ} 0 1 = cc in absurd (omega arith)
 
   -- the job is tried as its edge is observed and followed
-  tried_by : (cap : ℕ) (edge : Edge) → edge ≡ edge_of js σ i → (l : List State) (seen : List Range) (c : ℕ)
+  tried_by : (cap : ℕ) (edge : Option JobStart) → edge ≡ edge_of js σ i → (l : List State) (seen : List Range) (c : ℕ)
       → followed js cap σ edge l (observed_by edge seen) c ≡ try_job js cap σ i (going l seen c)
   unfolding edge_of try_job add_edge successor
   tried_by cap edge e l seen c = rw e (go (eligible js σ i))
     where
-      go : (b : Bool) → followed js cap σ (cond b (Starts (start_of js σ i)) NotEligible) l (observed_by (cond b (Starts (start_of js σ i)) NotEligible) seen) c
+      go : (b : Bool) → followed js cap σ (cond b (Some (start_of js σ i)) None) l (observed_by (cond b (Some (start_of js σ i)) None) seen) c
           ≡ cond b (add_edge js cap σ i l seen c) (going l seen c)
       go true = refl
       go false = refl
@@ -100,15 +98,6 @@ module _ (js : List Job) (σ : State) (x : JobStart) (follows : Follows js σ x)
   pub new_bounded : (d : ℕ) → TimedUpTo d js → Bounded js d σ → x.job < length js → x.latest ≤ (job js x.job).deadline → Bounded js d (after_start σ x)
   new_bounded d timed g b h =
       subst (Bounded js d) successor_is (successor_bounded js d timed σ x.job (record { inside = b; starts = follows.starts; timely = omega (arith, follows.latest) }) g)
-
-module _ (js : List Job) (cap : ℕ) (σ : State) (x : JobStart) (l : List State) (seen : List Range) (c : ℕ) where
-  -- a job that may finish after its deadline ends the exploration
-  pub edge_late : (job js x.job).deadline < x.latest → miss x.job x.earliest x.latest ≡ followed js cap σ (Starts x) l seen c
-  edge_late h = rw (lt-ltb (job js x.job).deadline x.latest h)
-
-  -- else the new state is stored
-  pub edge_kept : x.latest ≤ (job js x.job).deadline → limited cap (after_start σ x) (stored (after_start σ x) l) seen c ≡ followed js cap σ (Starts x) l seen c
-  edge_kept h = rw (le-ltb (job js x.job).deadline x.latest h)
 
 -- one job more has started
 pub one_more_started : (m k : ℕ) (ws : List ℕ) (x : JobStart) → x.job < k → started (state_of m k ws) x.job ≡ false
@@ -180,14 +169,13 @@ module _ (js : List Job) (cap : ℕ) (σ : State) where
 -- ---- the same, by what the words say
 
 -- a step that does not go on has stopped
-pub ended : (r : Progress) → ((n : ℕ) → r ≡ Going n → ⊥) → (m k : ℕ) (seen : List Range) (c : ℕ) (half : List ℕ) → Stopped (progress_of m k seen c r half)
-ended (Going n) h m k seen c half = absurd (h n refl)
-ended (Full l) h m k seen c half = tt
-ended (Late i e f) h m k seen c half = tt
+pub ended : (stop : Stop) (m k : ℕ) (seen : List Range) (c : ℕ) (half : List ℕ) → Stopped (progress_of m k seen c (Err stop) half)
+ended (Full l) m k seen c half = tt
+ended (Late i e f) m k seen c half = tt
 
 -- a job is tried once its edge is observed and followed
-pub edge_tried : (js : List Job) (shape : Shape) (σ : State) (i : ℕ) (edge : Edge) → edge ≡ edge_of js σ i
-    → (n : ℕ) (half seen half' seen' heads' : List ℕ) (r : Progress) → observed_of shape.jobs seen' ≡ observed_by edge (observed_of shape.jobs seen)
+pub edge_tried : (js : List Job) (shape : Shape) (σ : State) (i : ℕ) (edge : Option JobStart) → edge ≡ edge_of js σ i
+    → (n : ℕ) (half seen half' seen' heads' : List ℕ) (r : Result ℕ Stop) → observed_of shape.jobs seen' ≡ observed_by edge (observed_of shape.jobs seen)
     → Observed shape.jobs seen'
     → ((s : List Range) (c : ℕ) → progress_of shape.cores shape.jobs s c r half' ≡ followed js shape.capacity σ edge (states_of shape.cores shape.jobs half n) s c)
     → HalfAt js shape r half' heads'
@@ -203,11 +191,11 @@ edge_tried js shape σ i edge e n half seen half' seen' heads' r widened there f
 
 module _ (js : List Job) (shape : Shape) (σ : State) (list : List ℕ) (from : ℕ → Exploration) where
   -- what is left once the first t of the listed jobs are tried
-  abbrev pub Tried : ℕ → Progress → List ℕ → List ℕ → List ℕ → Type 0
+  abbrev pub Tried : ℕ → Result ℕ Stop → List ℕ → List ℕ → List ℕ → Type 0
   Tried t = Leaves js shape (λ c. try_listed js shape.capacity σ (take t list) (from c))
 
   -- one job more
-  pub tried_more : (t : ℕ) {stored : ℕ} {half seen heads half' seen' heads' : List ℕ} {r : Progress} → t < length list → Tried t (Going stored) half seen heads
+  pub tried_more : (t : ℕ) {stored : ℕ} {half seen heads half' seen' heads' : List ℕ} {r : Result ℕ Stop} → t < length list → Tried t (Ok stored) half seen heads
       → Leaves js shape (λ c. try_job js shape.capacity σ (get_or list t 0) (going_in shape half stored seen c)) r half' seen' heads' → Tried (t + 1) r half' seen' heads'
   tried_more t h before leaves =
       record {
@@ -218,11 +206,11 @@ module _ (js : List Job) (shape : Shape) (σ : State) (list : List ℕ) (from : 
 
   module _ (listed : list ≡ candidates js σ shape.jobs) where
     -- what is left by every job of the state
-    abbrev pub AllTried : Progress → List ℕ → List ℕ → List ℕ → Type 0
+    abbrev pub AllTried : Result ℕ Stop → List ℕ → List ℕ → List ℕ → Type 0
     AllTried = Leaves js shape (λ c. try_jobs js shape.capacity σ shape.jobs (from c))
 
     -- the listed jobs are all that matter
-    pub tried_all : (t : ℕ) {r : Progress} {half seen heads : List ℕ} → length list ≤ t → Tried t r half seen heads → AllTried r half seen heads
+    pub tried_all : (t : ℕ) {r : Result ℕ Stop} {half seen heads : List ℕ} → length list ≤ t → Tried t r half seen heads → AllTried r half seen heads
     tried_all t h leaves =
         record {
           same = λ c. leaves.same c ∙ all_tried js shape.capacity σ shape.jobs list listed (from c) t h;
@@ -231,10 +219,10 @@ module _ (js : List Job) (shape : Shape) (σ : State) (list : List ℕ) (from : 
         }
 
     -- once stopped, the jobs that are left change nothing
-    pub tried_enough : (t : ℕ) {r : Progress} {half seen heads : List ℕ} → ((n : ℕ) → r ≡ Going n → ⊥) → Tried t r half seen heads → AllTried r half seen heads
-    tried_enough t {r = r} {half = half} {seen = seen} h leaves =
+    pub tried_enough : (t : ℕ) {stop : Stop} {half seen heads : List ℕ} → Tried t (Err stop) half seen heads → AllTried (Err stop) half seen heads
+    tried_enough t {stop = stop} {half = half} {seen = seen} leaves =
         record {
-          same = λ c. stopped js shape.capacity σ shape.jobs list listed (from c) _ t (ended r h shape.cores shape.jobs (observed_of shape.jobs seen) c half) (leaves.same c);
+          same = λ c. stopped js shape.capacity σ shape.jobs list listed (from c) _ t (ended stop shape.cores shape.jobs (observed_of shape.jobs seen) c half) (leaves.same c);
           sound = leaves.sound;
           observed = leaves.observed;
         }

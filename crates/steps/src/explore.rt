@@ -1,4 +1,4 @@
-// The edges of one state, and what each leaves in the half of the next level, whose index is `heads`.
+// The edges of one state. Each leaves so many states in the half of the next level, whose index is `heads`, or ends the analysis.
 ghost use Rattle.std.specs.Prelude.{◌≡◌, List, ℕ, ◌≤◌, ◌<◌, length};
 ghost use Rattle.model.specs.States.{Range};
 ghost use Rattle.model.specs.Exploration.{try_jobs, state_words};
@@ -6,20 +6,20 @@ ghost use Rattle.jobs.specs.internal.JobRow.{Setting};
 ghost use Rattle.states.specs.declared.starting.JobStart.{JobStart};
 ghost use Rattle.states.specs.internal.Slots.{states_of, Sound};
 ghost use Rattle.states.specs.internal.Writing.{Restored};
-ghost use Rattle.edges.specs.declared.Edge.TheVariants.{Starts};
 ghost use Rattle.edges.specs.internal.Edges.{PredecessorSets};
 ghost use Rattle.steps.specs.internal.Observed.{Observed};
 ghost use Rattle.steps.specs.internal.Progress.{jobs_in, state_in, going_in, progress_of, followed, Target, HalfAt, Linkable, FrontOf, Leaves, Explores, Follows};
 
 use crate::observed::observe_edge;
-use crate::progress::Progress;
 use crate::shape::Shape;
+use crate::stop::Stop;
 use crate::successor::store_successor;
-use edges::{Edge, edge_of, list_candidates, survey};
+use edges::{edge_of, list_candidates, survey};
 use jobs::deadline;
 use model::limits::MOST_JOBS;
 use states::copying::copy_front;
 use states::sizes::MOST_FRONT_WORDS;
+use states::starting::JobStart;
 
 // Follows the edge of a job, where it has one: the job starts. `front` is the front of the state in hand.
 pub fn follow(
@@ -30,24 +30,24 @@ pub fn follow(
     cur: &mut [u32],
     front: &[u32],
     shape: Shape,
-    edge: Edge,
-) -> Progress
+    edge: Option<JobStart>,
+) -> Result<usize, Stop>
     requires { Explores rows.now shape cur.old half.old n heads.old × FrontOf shape cur.old front.now
-        × ((x : JobStart) → edge ≡ Starts x → (x.job < shape.jobs) × Follows (jobs_in shape rows.now) (state_in shape cur.old) x) }
+        × ((x : JobStart) → edge ≡ Some x → (x.job < shape.jobs) × Follows (jobs_in shape rows.now) (state_in shape cur.old) x) }
     ensures half_after { (seen : List Range) (c : ℕ) → progress_of shape.cores shape.jobs seen c result half.new
         ≡ followed (jobs_in shape rows.now) shape.capacity (state_in shape cur.old) edge
         (states_of shape.cores shape.jobs half.old n) seen c }
     ensures half_at { HalfAt (jobs_in shape rows.now) shape result half.new heads.new }
     ensures restored { Restored shape.cores shape.jobs cur.old cur.new }
 {
-    let Edge::Starts(start) = edge else {
-        return Progress::Going(n);
+    let Some(start) = edge else {
+        return Ok(n);
     };
     let i = start.job;
     let e = start.earliest;
     let f = start.latest;
     if deadline(rows, shape.jobs, i) < f {
-        return Progress::Late(i, e, f);
+        return Err(Stop::Late(i, e, f));
     }
     store_successor(half, heads, n, cur, front, shape, start)
 }
@@ -63,7 +63,7 @@ pub fn try_state(
     sets: &[u64],
     cur: &mut [u32],
     shape: Shape,
-) -> Progress
+) -> Result<usize, Stop>
     requires setting { Setting rows.now shape.jobs shape.cores × (shape.jobs ≤ length sets.now)
         × PredecessorSets (jobs_in shape rows.now) shape.jobs sets.now }
     requires jobs_in_bounds { (state_words shape.cores shape.jobs ≤ length cur.old) × Sound (jobs_in shape rows.now) shape.cores shape.jobs cur.old
@@ -83,17 +83,11 @@ pub fn try_state(
     let mut front = [0u32; MOST_FRONT_WORDS];
     copy_front(&mut front, cur, m);
     let mut stored = n;
-    let mut at = 0;
-    while at < listed {
-        let i = list[at] as usize;
+    for &job in &list[..listed] {
+        let i = job as usize;
         let edge = edge_of(rows, k, cur, m, sets, &holders[..held], bound, i);
         observe_edge(seen, k, edge);
-        let progress = follow(half, heads, stored, rows, cur, &front, shape, edge);
-        let Progress::Going(x) = progress else {
-            return progress;
-        };
-        stored = x;
-        at += 1;
+        stored = follow(half, heads, stored, rows, cur, &front, shape, edge)?;
     }
-    Progress::Going(stored)
+    Ok(stored)
 }

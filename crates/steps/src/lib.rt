@@ -3,6 +3,6 @@
 
 pub mod explore;
 pub mod observed;
-pub mod progress;
 pub mod shape;
+pub mod stop;
 pub mod successor;

@@ -11,12 +11,12 @@ ghost use Rattle.states.specs.internal.Writing.{after_start, Restored};
 ghost use Rattle.store.specs.internal.Half.{SetsFit};
 ghost use Rattle.steps.specs.internal.Progress.{state_in, progress_of, Half, HalfAt, IndexOf, Linkable, FrontOf};
 
-use crate::progress::Progress;
 use crate::shape::Shape;
+use crate::stop::Stop;
 use states::copying::copy_front;
 use states::reading::level_of;
 use states::starting::{JobStart, start_job};
-use store::{Stored, store_state};
+use store::store_state;
 
 // Stores a state in the half, which holds n states and has an index.
 pub fn store_new(
@@ -25,7 +25,7 @@ pub fn store_new(
     n: usize,
     new: &[u32],
     shape: Shape,
-) -> Progress
+) -> Result<usize, Stop>
     requires jobs_le_most_jobs { (shape.jobs ≤ most_jobs) × (shape.cores ≤ most_cores) × (state_words shape.cores shape.jobs ≤ length new.now)
         × (set_of new.now < 2 ^ shape.jobs) × (0 < shape.index.linked → level (state_in shape new.now) < shape.jobs) }
     requires jobs_value { (shape.capacity * state_words shape.cores shape.jobs ≡ length half.old) × (n ≤ shape.capacity)
@@ -39,8 +39,8 @@ pub fn store_new(
     let m = shape.cores;
     let k = shape.jobs;
     match store_state(half, heads, n, shape.capacity, new, m, k, shape.index) {
-        Stored::At(stored) => Progress::Going(stored),
-        Stored::Full => Progress::Full(level_of(new, m, k)),
+        Some(stored) => Ok(stored),
+        None => Err(Stop::Full(level_of(new, m, k))),
     }
 }
 
@@ -54,7 +54,7 @@ pub fn store_successor(
     front: &[u32],
     shape: Shape,
     start: JobStart,
-) -> Progress
+) -> Result<usize, Stop>
     requires job_lt_jobs { (start.job < shape.jobs) × (shape.jobs ≤ most_jobs) × (1 ≤ shape.cores) × (shape.cores ≤ most_cores)
         × (state_words shape.cores shape.jobs ≤ length cur.old) × FrontOf shape cur.old front.now
         × (set_of cur.old < 2 ^ shape.jobs) × (started (state_in shape cur.old) start.job ≡ false) × Ordered (state_in shape cur.old)

@@ -1,7 +1,6 @@
 -- The chains of a level: what they say of the states, and how they are kept while states are stored. Assumes nothing.
 use Prim.Native.Nat.{ℕ, suc, ◌+◌, ◌≤◌, ◌<◌}
-use mathlib.Core.Path.{◌≡◌, refl, sym, ap, ◌∙◌, subst}
-use mathlib.Core.Logic.{inl, inr}
+use mathlib.Core.Path.{◌≡◌, sym, ap, ◌∙◌, subst}
 use mathlib.Core.Bool.{Bool, true, false, cond}
 use native.Mathlib.Nat.{lt_of_not-le}
 use native.Mathlib.Numerals.{lt_of_le_of_ne}
@@ -10,6 +9,7 @@ use native.Mathlib.Omega.{arith}
 use lib.Dec.{leb}
 use borrow.Author.Count.{below_more}
 use borrow.Author.Tests.{le-leb, lt-leb}
+use Rattle.std.specs.Prelude.{Some}
 use Rattle.store.specs.internal.Chains.{FirstFrom, leads, Chains, LastBefore}
 
 -- a level without states has any chains
@@ -57,16 +57,12 @@ module _ {c : ℕ} {β η link : ℕ → ℕ} (chains : Chains c β η link) whe
 
   -- ---- along a chain
 
-  -- before the first state of a bucket there is none
-  pub first_last : {b r : ℕ} → FirstFrom c β b 0 r → LastBefore c β b r c
-  first_last first = inl (refl, first)
-
   onward_in : {b : ℕ} (j : ℕ) → j < c → β j ≡ b → FirstFrom c β b (suc j) (leads c j (link j))
   onward_in j h e = subst (λ (z : ℕ). FirstFrom c β z (suc j) (leads c j (link j))) e (chains.onward j h)
 
   -- before the state that the link of one leads to, that one is the last
-  pub next_last : {b : ℕ} (j : ℕ) → j < c → β j ≡ b → LastBefore c β b (leads c j (link j)) j
-  next_last j h e = inr (h, (e, onward_in j h e))
+  pub next_last : {b : ℕ} (j : ℕ) → j < c → β j ≡ b → LastBefore c β b (leads c j (link j)) (Some j)
+  next_last j h e = (h, e, onward_in j h e)
 
   -- ---- the chains are kept
 

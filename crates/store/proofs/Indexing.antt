@@ -1,7 +1,6 @@
 -- What the index of a level is for, and the range of buckets. Assumes nothing.
 use Prim.Native.Nat.{ℕ, suc, ◌+◌, ◌*◌, ◌/◌, ◌^◌, ◌≤◌, ◌<◌}
 use mathlib.Core.Path.{◌≡◌, refl, sym, ap, ◌∙◌, subst}
-use mathlib.Core.Logic.{⊎_elim}
 use mathlib.Core.Bool.{Bool, true, false, cond}
 use mathlib.Core.List.{List}
 use native.Mathlib.Nat.{mod-lt, mul-le-mul_right}
@@ -9,11 +8,12 @@ use native.Mathlib.Omega.{arith}
 use lib.Dec.{ltb}
 use lib.ListN.{get_or}
 use borrow.Author.Tests.{ltb-true, ltb-false, lt-ltb, le-ltb, le-leb, lt-leb}
+use Rattle.std.specs.Prelude.{Option, Some, None}
 use Rattle.model.specs.Exploration.{mergeable, state_words}
 use Rattle.states.specs.internal.Slots.{set_of, state_of, slot_of}
 use Rattle.links.specs.internal.Spare.{head_of}
 use Rattle.states.proofs.Merges.{mergeable_set}
-use Rattle.store.specs.internal.Half.{SetsFit, NoneMerges, NextOfSet}
+use Rattle.store.specs.internal.Half.{SetsFit, NoneMerges, NextOfSet, FoundOfSet}
 use Rattle.store.specs.internal.Chains.{FirstFrom, leads, Chains, LastBefore}
 use Rattle.store.specs.internal.Index.{bucket_of, bucket_at, slot_head, head_room, head_at, Fits}
 use Rattle.store.specs.declared.Index.{Index}
@@ -71,12 +71,13 @@ module _ {c : ℕ} {β η link : ℕ → ℕ} (chains : Chains c β η link) (b 
   pub next_one : FirstFrom c β b (suc j) r
   next_one = subst (λ (z : ℕ). FirstFrom c β z (suc j) r) q (subst (λ (z : ℕ). FirstFrom c β (β j) (suc j) z) (sym e) (chains.onward j h))
 
-  pub last_one : LastBefore c β b r j
-  last_one = subst (λ (z : ℕ). LastBefore c β b z j) (sym e) (next_last chains j h q)
+  pub last_one : LastBefore c β b r (Some j)
+  last_one = subst (λ (z : ℕ). LastBefore c β b z (Some j)) (sym e) (next_last chains j h q)
 
 -- the state that a last one stands before is of its bucket
-pub last_is_one : {c : ℕ} {β : ℕ → ℕ} {b j last : ℕ} → LastBefore c β b j last → j < c → β j ≡ b
-last_is_one l h = ⊎_elim (λ p. p.1.is_one h) (λ p. p.1.1.is_one h) l
+pub last_is_one : (c : ℕ) (β : ℕ → ℕ) (b j : ℕ) (last : Option ℕ) → LastBefore c β b j last → j < c → β j ≡ b
+last_is_one c β b j (Some i) l h = l.2.is_one h
+last_is_one c β b j None l h = l.is_one h
 
 -- ---- what it is for: a state of another set cannot merge, so neither can one of another bucket
 
@@ -96,10 +97,18 @@ module _ (m k : ℕ) (half new : List ℕ) (n : ℕ) (fit : SetsFit m k half n) 
       go true e = none j (ltb-true j from e)
       go false e = other_set_holds j (omega (arith, h, first.inside)) (λ q. first.none_between j (ltb-false j from e) h (ap (bucket_of buckets) q))
 
-  -- and none up to the next of its set, where none does so far
-  pub none_merges_on : (from r : ℕ) → NextOfSet m k half n from (set_of new) r → NoneMerges m k half new from → NoneMerges m k half new r
-  none_merges_on from r next none j h = go (ltb j from) refl
+  none_of_set : (from r : ℕ) → r ≤ n → ((j : ℕ) → j < r → from ≤ j → set_of (slot_of m k half j) ≡ set_of new → ⊥) → NoneMerges m k half new from
+      → NoneMerges m k half new r
+  none_of_set from r l between none j h = go (ltb j from) refl
     where
       go : (c : Bool) → ltb j from ≡ c → mergeable (state_of m k (slot_of m k half j)) (state_of m k new) ≡ false
       go true e = none j (ltb-true j from e)
-      go false e = other_set_holds j (omega (arith, h, next.inside)) (next.none_between j h (ltb-false j from e))
+      go false e = other_set_holds j (omega (arith, h, l)) (between j h (ltb-false j from e))
+
+  -- and none up to the next of its set, where none does so far
+  pub none_merges_on : (from r : ℕ) → NextOfSet m k half n from (set_of new) r → NoneMerges m k half new from → NoneMerges m k half new r
+  none_merges_on from r next = none_of_set from r (omega (arith, next.inside)) next.none_between
+
+  -- and none at all where no other one has it
+  pub none_merges_more : (from : ℕ) → FoundOfSet m k half n from (set_of new) None → NoneMerges m k half new from → NoneMerges m k half new n
+  none_merges_more from none = none_of_set from n (omega arith) none

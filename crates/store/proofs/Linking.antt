@@ -1,7 +1,6 @@
 -- How the index of a level is kept while a state is stored. Assumes nothing.
 use Prim.Native.Nat.{ℕ, ◌+◌, ◌*◌, ◌≤◌, ◌<◌}
 use mathlib.Core.Path.{◌≡◌, refl, sym, ap, ◌∙◌, subst}
-use mathlib.Core.Logic.{⊎_elim}
 use mathlib.Core.Bool.{Bool, true, false, cond}
 use mathlib.Core.List.{List}
 use native.Mathlib.Numerals.{lt_of_le_of_ne}
@@ -11,6 +10,7 @@ use lib.Dec.{leb, ltb}
 use lib.ListN.{get_or, length}
 use borrow.Author.Count.{below_more}
 use borrow.Author.Tests.{ltb-true, ltb-false, lt-ltb, le-ltb, leb-false}
+use Rattle.std.specs.Prelude.{Some, None}
 use Rattle.model.specs.Exploration.{state_words}
 use Rattle.states.specs.internal.Slots.{set_of, state_of, slot_of}
 use Rattle.links.specs.internal.Spare.{spare_of, link_of, head_of}
@@ -221,16 +221,16 @@ module _ (m k : ℕ) (index : Index) where
         range i l = bucketed (set_of (slot_of m k half i)) i (omega (arith, l, lt))
 
         -- the first of its bucket
-        pub head_written : (last : ℕ) → LastBefore n (β half) b n last → n ≤ last → length heads' ≡ head_room
+        pub head_written : LastBefore n (β half) b n None → length heads' ≡ head_room
             → head_at m k index out heads' (n + 1) b ≡ n
             → ((x : ℕ) → x < index.buckets → (x ≡ b → ⊥) → head_at m k index out heads' (n + 1) x ≡ head_at m k index mid heads (n + 1) x)
             → ((i : ℕ) → i < n + 1 → link_at m k out i ≡ link_at m k mid i) → Appended
-        head_written last before_it past long head rest links =
+        head_written none long head rest links =
             more long (chains_first chains (β out) (head_at m k index out heads' (n + 1)) (link_at m k out) b same own_there
             (omega (arith, links n (omega arith), start.ends))
             (λ i l d. rest (β half i) (range i l) d ∙ put_heads (β half i) (range i l))
             (λ i l d. links i (omega (arith, l)) ∙ ap (link_of m k) (before i l))
-            (⊎_elim (λ w. w.1) (λ w. absurd (omega (arith, w.0, past))) before_it) head)
+            none head)
 
       -- one behind the last of its bucket
       module _ (out : List ℕ) (last b : ℕ) (long : length mid ≡ length half) (own : b ≡ bucket_of index.buckets (set_of new)) (earlier : last < n) (at_last : KeptAt m k mid out last)
@@ -247,19 +247,17 @@ module _ (m k : ℕ) (index : Index) where
                 let e = out_slot i (omega (arith, l, lt)) d in
                 record { set = ap set_of e; state = ap (state_of m k) e }
 
-        pub link_written : LastBefore n (β half) b n last → link_at m k out last ≡ n → head_of m k (slot_of m k out last) ≡ head_of m k (slot_of m k mid last)
+        pub link_written : LastBefore n (β half) b n (Some last) → link_at m k out last ≡ n → head_of m k (slot_of m k out last) ≡ head_of m k (slot_of m k mid last)
             → Appended out heads b own link_kept
         link_written before_it to-new head =
             more out heads b own link_kept start.indexed.long
-            (⊎_elim (λ w. absurd (omega (arith, w.0, earlier)))
-            (λ w. chains_last chains (β out) (head_at m k index out heads (n + 1)) (link_at m k out) b (same out heads b own link_kept) (own_there out heads b own link_kept)
+            (chains_last chains (β out) (head_at m k index out heads (n + 1)) (link_at m k out) b (same out heads b own link_kept) (own_there out heads b own link_kept)
             (omega (arith, new_link, start.ends))
             (λ i l d. out_head (β half i) (range out heads b own link_kept i l))
-            (λ i l d. other_link i l (λ z. d (ap (β half) z ∙ w.1.0)))
-            last earlier w.1.0 w.1.1
+            (λ i l d. other_link i l (λ z. d (ap (β half) z ∙ before_it.1)))
+            last earlier before_it.1 before_it.2
             (out_head b (subst (λ (z : ℕ). z < index.buckets) (sym own) (bucketed (set_of new) n lt)))
             to-new other_link)
-            before_it)
           where
             new_link : link_at m k out n ≡ link_at m k mid n
             new_link = ap (link_of m k) (out_slot n lt (λ z. omega (arith, z, earlier)))

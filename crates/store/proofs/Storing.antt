@@ -24,8 +24,7 @@ use Rattle.words.proofs.Parts.{part_same, part_before, part_after}
 use Rattle.states.specs.internal.Slots.{set_of, state_of, slot_of, states_of, Sound, AllSound}
 use Rattle.states.proofs.Merges.{mergeable_set}
 use Rattle.store.specs.internal.Half.{level_of, SoundAt, SetsFit, NoneMerges, FirstMerging, OthersKept, KeptAt, Put, MergedAt}
-use Rattle.store.specs.declared.Stored.{Stored}
-use Rattle.store.specs.declared.Stored.TheVariants.{At, Full}
+use Rattle.std.specs.Prelude.{Option, Some, None}
 
 -- ---- where the model stores a state
 
@@ -111,7 +110,7 @@ module _ (m k : ℕ) (half new : List ℕ) (n cap : ℕ) (room : cap * state_wor
   abbrev states : List State
   states = states_of m k half n
 
-  abbrev Result : Stored → List ℕ → Type 0
+  abbrev Result : Option ℕ → List ℕ → Type 0
   Result r out =
       ((seen : List Range) (c : ℕ) → level_of m k state seen c r out ≡ limited cap state (stored state states) seen c)
       × ((js : List Job) → AllSound js m k half n → Sound js m k new → SoundAt js m k cap r out)
@@ -136,17 +135,20 @@ module _ (m k : ℕ) (half new : List ℕ) (n cap : ℕ) (room : cap * state_wor
       rw (le-ltb cap (length (stored state states)) l, e) refl
 
   -- what a merge leaves is the level that the definition stores
-  pub merged_result : (j : ℕ) (out : List ℕ) → FirstMerging m k half n new j → j < n → MergedAt m k half new out j → OthersKept m k j half out
-      → Result (At n) out
-  merged_result j out f h p o = (in_room out n level most, λ js a s. (most, λ i b. sound js a s i b (ℕ_discrete i j)))
+  pub merged_result : (j : ℕ) (out : List ℕ) → FirstMerging m k half n new j → MergedAt m k half new out j → OthersKept m k j half out
+      → Result (Some n) out
+  merged_result j out f p o = (in_room out n level most, λ js a s. (most, λ i b. sound js a s i b (ℕ_discrete i j)))
     where
+      h : j < n
+      h = f.inside
+
       level : states_of m k out n ≡ stored state states
       level =
           states_set m k half n out (merge (state_of m k (slot_of m k half j)) state) j h p.state (λ i b ne. kept i j out o b ne)
           ∙ ap (λ (τ : State). set states j (merge τ state)) (sym (state_at m k half n j state h))
           ∙ sym (stored_merged state states j state (omega (arith, states_length m k half n))
           (λ i b. ap (λ (τ : State). mergeable τ state) (state_at m k half n i state (omega arith)) ∙ f.none_before i b)
-          (ap (λ (τ : State). mergeable τ state) (state_at m k half n j state h) ∙ f.merges h))
+          (ap (λ (τ : State). mergeable τ state) (state_at m k half n j state h) ∙ f.merges))
 
       sound : (js : List Job) → AllSound js m k half n → Sound js m k new → (i : ℕ) → i < n → Dec (i ≡ j) → Sound js m k (slot_of m k out i)
       sound js a s i b (yes z) =
@@ -158,7 +160,7 @@ module _ (m k : ℕ) (half new : List ℕ) (n cap : ℕ) (room : cap * state_wor
     last = stored_last state states state (λ i b. let b₁ : i < n = omega (arith, b, states_length m k half n) in ap (λ (τ : State). mergeable τ state) (state_at m k half n i state b₁) ∙ none i b₁)
 
     -- so is what adding the state leaves
-    pub added_result : (out : List ℕ) → n < cap → Put m k new out n → ((i : ℕ) → i < n → KeptAt m k half out i) → Result (At (n + 1)) out
+    pub added_result : (out : List ℕ) → n < cap → Put m k new out n → ((i : ℕ) → i < n → KeptAt m k half out i) → Result (Some (n + 1)) out
     added_result out b p same =
         (in_room out (n + 1) level (omega arith), λ js a s. (omega arith, below_more (λ (i : ℕ). Sound js m k (slot_of m k out i)) n (λ i g. sound_kept js i out (same i g) (a i g)) (sound js s)))
       where
@@ -169,10 +171,10 @@ module _ (m k : ℕ) (half new : List ℕ) (n cap : ℕ) (room : cap * state_wor
         sound js s = record { set_fits = rw p.set s.set_fits; bounded = rw p.state s.bounded }
 
     -- and with no room, the level is full
-    pub full_result : cap ≤ n → Result Full half
+    pub full_result : cap ≤ n → Result None half
     unfolding limited
     full_result b = (λ seen c. rw (lt-ltb cap (length (stored state states)) (omega (arith, ap length last, length-append states (state ∷ []), states_length m k half n))) refl, λ js a s. tt)
 
 -- the new state and the first that merges with it have one set
-pub one_set : (m k : ℕ) (half new : List ℕ) (n j : ℕ) → SetsFit m k half n → set_of new < 2 ^ k → FirstMerging m k half n new j → j < n → set_of (slot_of m k half j) ≡ set_of new
-one_set m k half new n j a s f h = mergeable_set m k (slot_of m k half j) new (a j h) s (f.merges h)
+pub one_set : (m k : ℕ) (half new : List ℕ) (n j : ℕ) → SetsFit m k half n → set_of new < 2 ^ k → FirstMerging m k half n new j → set_of (slot_of m k half j) ≡ set_of new
+one_set m k half new n j a s f = mergeable_set m k (slot_of m k half j) new (a j f.inside) s f.merges

@@ -8,23 +8,15 @@ ghost use Rattle.model.specs.States.{Range};
 ghost use Rattle.model.specs.Exploration.{stored, limited, state_words};
 ghost use Rattle.states.specs.internal.Slots.{set_of, state_of, slot_of, states_of, Sound, AllSound};
 ghost use Rattle.links.specs.internal.Spare.{spare_of, link_of, head_of};
-ghost use Rattle.store.specs.internal.Half.{level_of, SoundAt, SetsFit, NoneMerges, FirstMerging, OthersKept, KeptAt, Put, MergedAt, NextOfSet};
+ghost use Rattle.store.specs.internal.Half.{level_of, SoundAt, SetsFit, NoneMerges, FoundMerging, OthersKept, KeptAt, Put, MergedAt, FoundOfSet};
 ghost use Rattle.store.specs.internal.Chains.{FirstFrom, leads, LastBefore};
 ghost use Rattle.store.specs.internal.Index.{bucket_of, bucket_at, head_at, head_room, last_slot, Fits, Spared, used_of, Linked, Indexed, IndexedAt, Searched, SpareKept};
 
-use links::{head_of, link_of, write_head, write_link};
+use links::{Head, Link, spare_word, write_spare_word};
 use states::copying::load_state;
 use states::merging::{can_merge, merge_into};
 use states::reading::{WORD, started_set};
 use states::sizes::state_words;
-
-#[derive(Clone, Copy)]
-pub enum Stored {
-    // The half now holds so many states.
-    At(usize),
-    // It has no room for the new state.
-    Full,
-}
 
 // The index of a level: the states in so many slots, the first ones, are linked; so many buckets their sets fall into.
 #[derive(Clone, Copy)]
@@ -33,13 +25,12 @@ pub struct Index {
     pub buckets: usize,
 }
 
-// How a search along the links ended: the bucket of the new state, the state that can merge with it, and the last one of the bucket before that. Where there
-// is none, the number of linked states.
+// How a search along the links ended: the bucket of the new state, the state that can merge with it, and the last one of the bucket before that.
 #[derive(Clone, Copy)]
 pub struct Search {
     pub bucket: usize,
-    pub merging: usize,
-    pub last: usize,
+    pub merging: Option<usize>,
+    pub last: Option<usize>,
 }
 
 // The heads that have a place of their own. Where there are more buckets, they stand in the slots: these are in the cache, which slots of a wide level are not.
@@ -63,10 +54,7 @@ fn bucket_of(set: u64, buckets: usize) -> usize
 fn used_of(n: usize, index: Index) -> usize
     ensures { result ≡ used_of index n }
 {
-    if index.linked < n {
-        return index.linked;
-    }
-    n
+    n.min(index.linked)
 }
 
 // The head of bucket b, where so many slots have linked states.
@@ -90,13 +78,13 @@ fn head_at(
     let at = b * w;
     if b < used {
         let end = at + w;
-        return head_of(&half[at..end], m, k) as usize;
+        return spare_word::<Head>(&half[at..end], m, k) as usize;
     }
     half[at] as usize
 }
 
-// Where a search among linked states for one of the set begins: at the first of its bucket b, or behind them where there is none. That the state there has the
-// very set is seen sooner than its bucket.
+// Where a search among linked states for one of the set begins: at the first of its bucket b, or behind them where there is none, as FirstFrom, by which chains
+// are defined, says it. That the state there has the very set is seen sooner than its bucket.
 fn first_of(
     half: &[u32],
     heads: &[u32],
@@ -131,7 +119,7 @@ fn first_of(
     head
 }
 
-// The next linked state of the bucket of state j, or so many as there are. A link that does not lead on is that of the bucket's last.
+// The next linked state of the bucket of state j, or so many as there are, as `leads` says it. A link that does not lead on is that of the bucket's last.
 fn next_of(half: &[u32], used: usize, j: usize, m: usize, k: usize) -> usize
     requires { (m ≤ most_cores) × (k ≤ most_jobs) × (j * state_words m k + state_words m k ≤ length half.now) × (spare_of (set_of (slot_of m k half.now j)) < k) }
     ensures { result ≡ leads used j (link_of m k (slot_of m k half.now j)) }
@@ -139,7 +127,7 @@ fn next_of(half: &[u32], used: usize, j: usize, m: usize, k: usize) -> usize
     let w = state_words(m, k);
     let at = j * w;
     let end = at + w;
-    let link = link_of(&half[at..end], m, k) as usize;
+    let link = spare_word::<Link>(&half[at..end], m, k) as usize;
     if link <= j {
         return used;
     }
@@ -164,7 +152,7 @@ fn follow_links(
     let w = state_words(m, k);
     let set = started_set(new);
     let bucket = bucket_of(set, index.buckets);
-    let mut last = used;
+    let mut last = None;
     let mut j = first_of(half, heads, used, set, bucket, m, k, index);
     while j < used {
         let at = j * w;
@@ -172,57 +160,61 @@ fn follow_links(
         if can_merge(&half[at..end], new, m, k) {
             return Search {
                 bucket,
-                merging: j,
+                merging: Some(j),
                 last,
             };
         }
-        last = j;
+        last = Some(j);
         j = next_of(half, used, j, m, k);
     }
     Search {
         bucket,
-        merging: used,
+        merging: None,
         last,
     }
 }
 
-// The first of n stored states, from state `from` on, in which just the jobs of the set have started, or n.
-fn next_of_set(half: &[u32], n: usize, from: usize, set: u64, m: usize, k: usize) -> usize
+// The first of n stored states, from state `from` on, in which just the jobs of the set have started.
+fn next_of_set(half: &[u32], n: usize, from: usize, set: u64, m: usize, k: usize) -> Option<usize>
     requires { (m ≤ most_cores) × (k ≤ most_jobs) × (n * state_words m k ≤ length half.now) × (from ≤ n) }
-    ensures { NextOfSet m k half.now n from set result }
+    ensures { FoundOfSet m k half.now n from set result }
 {
     let w = state_words(m, k);
-    let mut j = from;
-    while j < n {
+    for j in from..n {
         let at = j * w;
         let end = at + w;
         if started_set(&half[at..end]) == set {
-            return j;
+            return Some(j);
         }
-        j += 1;
     }
-    n
+    None
 }
 
-// The first of n stored states that can merge with the new one, or n, past those that are linked: none before state `from` can. Only those that have its set
-// are compared further.
-fn find_merging(half: &[u32], n: usize, from: usize, new: &[u32], m: usize, k: usize) -> usize
+// The first of n stored states that can merge with the new one, past those that are linked: none before state `from` can. Only those that have its set are
+// compared further.
+fn find_merging(
+    half: &[u32],
+    n: usize,
+    mut from: usize,
+    new: &[u32],
+    m: usize,
+    k: usize,
+) -> Option<usize>
     requires { (m ≤ most_cores) × (k ≤ most_jobs) × (n * state_words m k ≤ length half.now) × (state_words m k ≤ length new.now)
         × SetsFit m k half.now n × (set_of new.now < 2 ^ k) × (from ≤ n) × NoneMerges m k half.now new.now from }
-    ensures { FirstMerging m k half.now n new.now result }
+    ensures { FoundMerging m k half.now n new.now result }
 {
     let w = state_words(m, k);
     let set = started_set(new);
-    let mut j = next_of_set(half, n, from, set, m, k);
-    while j < n {
+    while let Some(j) = next_of_set(half, n, from, set, m, k) {
         let at = j * w;
         let end = at + w;
         if can_merge(&half[at..end], new, m, k) {
-            return j;
+            return Some(j);
         }
-        j = next_of_set(half, n, j + 1, set, m, k);
+        from = j + 1;
     }
-    n
+    None
 }
 
 // Merges the new state into stored state j, which is not linked.
@@ -247,11 +239,11 @@ fn merge_linked(half: &mut [u32], j: usize, new: &[u32], m: usize, k: usize)
     let w = state_words(m, k);
     let at = j * w;
     let end = at + w;
-    let link = link_of(&half[at..end], m, k);
-    let head = head_of(&half[at..end], m, k);
+    let link = spare_word::<Link>(&half[at..end], m, k);
+    let head = spare_word::<Head>(&half[at..end], m, k);
     merge_into(&mut half[at..end], new, m, k);
-    write_link(&mut half[at..end], m, k, link);
-    write_head(&mut half[at..end], m, k, head);
+    write_spare_word::<Link>(&mut half[at..end], m, k, link);
+    write_spare_word::<Head>(&mut half[at..end], m, k, head);
 }
 
 // Stores the new state in slot j.
@@ -278,8 +270,8 @@ fn put_linked(half: &mut [u32], j: usize, new: &[u32], m: usize, k: usize)
     let end = at + w;
     let head = half[at];
     put_at(half, j, new, m, k);
-    write_link(&mut half[at..end], m, k, 0);
-    write_head(&mut half[at..end], m, k, head);
+    write_spare_word::<Link>(&mut half[at..end], m, k, 0);
+    write_spare_word::<Head>(&mut half[at..end], m, k, head);
 }
 
 // Links state j to state n.
@@ -293,7 +285,7 @@ fn link_at(half: &mut [u32], j: usize, n: usize, m: usize, k: usize)
     let w = state_words(m, k);
     let at = j * w;
     let end = at + w;
-    write_link(&mut half[at..end], m, k, n as u32);
+    write_spare_word::<Link>(&mut half[at..end], m, k, n as u32);
 }
 
 // Writes the head of bucket b, where so many slots have linked states.
@@ -323,7 +315,7 @@ fn write_head_at(
     let at = b * w;
     if b < used {
         let end = at + w;
-        write_head(&mut half[at..end], m, k, head as u32);
+        write_spare_word::<Head>(&mut half[at..end], m, k, head as u32);
         return;
     }
     half[at] = head as u32;
@@ -347,14 +339,14 @@ fn append_linked(
     ensures indexed { Indexed m k index half.new heads.new (n + 1) }
 {
     put_linked(half, n, new, m, k);
-    if found.last < n {
-        link_at(half, found.last, n, m, k);
-    } else {
-        write_head_at(half, heads, n + 1, found.bucket, n, m, k, index);
+    match found.last {
+        Some(last) => link_at(half, last, n, m, k),
+        None => write_head_at(half, heads, n + 1, found.bucket, n, m, k, index),
     }
 }
 
-// Merges the new state with the first of n stored ones with which it can, or stores it last, where the half has room for cap states.
+// Merges the new state with the first of n stored ones with which it can, or stores it last. Returns how many states the half then holds, or `None` where the
+// room for cap states does not do.
 pub fn store_state(
     half: &mut [u32],
     heads: &mut [u32],
@@ -364,7 +356,7 @@ pub fn store_state(
     m: usize,
     k: usize,
     index: Index,
-) -> Stored
+) -> Option<usize>
     requires m_le_most_cores { (m ≤ most_cores) × (k ≤ most_jobs) × (cap * state_words m k ≤ length half.old) × (n ≤ cap) × (state_words m k ≤ length new.now)
         × SetsFit m k half.old n × (set_of new.now < 2 ^ k) }
     requires fits { Fits m k (length half.old) index × Indexed m k index half.old heads.old n × (0 < index.linked → spare_of (set_of new.now) < k) }
@@ -376,22 +368,21 @@ pub fn store_state(
 {
     let used = used_of(n, index);
     let found = follow_links(half, heads, used, new, m, k, index);
-    if found.merging < used {
-        merge_linked(half, found.merging, new, m, k);
-        return Stored::At(n);
+    if let Some(j) = found.merging {
+        merge_linked(half, j, new, m, k);
+        return Some(n);
     }
-    let j = find_merging(half, n, used, new, m, k);
-    if j < n {
+    if let Some(j) = find_merging(half, n, used, new, m, k) {
         merge_at(half, j, new, m, k);
-        return Stored::At(n);
+        return Some(n);
     }
     if cap <= n {
-        return Stored::Full;
+        return None;
     }
     if n < index.linked {
         append_linked(half, heads, n, new, found, m, k, index);
     } else {
         put_at(half, n, new, m, k);
     }
-    Stored::At(n + 1)
+    Some(n + 1)
 }

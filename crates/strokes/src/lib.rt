@@ -24,72 +24,59 @@ fn shifted_key(phrase: &[u32; PHRASE_WORDS], i: usize) -> u32
     transposed(key, shift)
 }
 
-fn stroke(
-    phrase: &[u32; PHRASE_WORDS],
-    earliest: &[u32; MOST_JOBS],
-    latest: &[u32; MOST_JOBS],
-    best: &[u32; MOST_JOBS],
-    worst: &[u32; MOST_JOBS],
-    i: usize,
-) -> Stroke
-    requires { (i < most_jobs) × SmallKey phrase.now i }
-    ensures { result
-        ≡ stroke_in phrase.now earliest.now latest.now best.now worst.now i }
-{
-    Stroke {
-        number: i,
-        key: shifted_key(phrase, i),
-        bell: note_word(phrase, i, STRUCK),
-        earliest: earliest[i],
-        latest: latest[i],
-        best: best[i],
-        worst: worst[i],
-        deadline: note_word(phrase, i, DEADLINE),
-    }
+// What the lines of strokes show: notes of a phrase, and the bounds of their jobs.
+#[derive(Clone, Copy)]
+pub struct Strokes<'a> {
+    pub phrase: &'a [u32; PHRASE_WORDS],
+    pub earliest: &'a [u32; MOST_JOBS],
+    pub latest: &'a [u32; MOST_JOBS],
+    pub best: &'a [u32; MOST_JOBS],
+    pub worst: &'a [u32; MOST_JOBS],
 }
 
-// How long the lines of k strokes are.
-pub fn strokes_length(
-    phrase: &[u32; PHRASE_WORDS],
-    k: usize,
-    earliest: &[u32; MOST_JOBS],
-    latest: &[u32; MOST_JOBS],
-    best: &[u32; MOST_JOBS],
-    worst: &[u32; MOST_JOBS],
-) -> usize
-    requires { (k ≤ most_jobs) × Keyed phrase.now k }
-    ensures { (result ≡ length (strokes_text phrase.now earliest.now latest.now best.now
-        worst.now k)) × (result ≤ k * longest_stroke) }
-{
-    let mut total = 0;
-    let mut i = 0;
-    while i < k {
-        total += stroke_length(stroke(phrase, earliest, latest, best, worst, i));
-        i += 1;
+impl Strokes<'_> {
+    fn stroke(&self, i: usize) -> Stroke
+        requires { (i < most_jobs) × SmallKey self.now.phrase.now i }
+        ensures { result ≡ stroke_in self.now.phrase.now self.now.earliest.now self.now.latest.now
+            self.now.best.now self.now.worst.now i }
+    {
+        Stroke {
+            number: i,
+            key: shifted_key(self.phrase, i),
+            bell: note_word(self.phrase, i, STRUCK),
+            earliest: self.earliest[i],
+            latest: self.latest[i],
+            best: self.best[i],
+            worst: self.worst[i],
+            deadline: note_word(self.phrase, i, DEADLINE),
+        }
     }
-    total
-}
 
-// The lines of k strokes.
-pub fn put_strokes(
-    buffer: &mut [u8],
-    phrase: &[u32; PHRASE_WORDS],
-    k: usize,
-    earliest: &[u32; MOST_JOBS],
-    latest: &[u32; MOST_JOBS],
-    best: &[u32; MOST_JOBS],
-    worst: &[u32; MOST_JOBS],
-) -> usize
-    requires { (k ≤ most_jobs) × Keyed phrase.now k
-        × Room buffer.old 0 (strokes_text phrase.now earliest.now latest.now best.now worst.now k) }
-    ensures { Written buffer.old 0 (strokes_text phrase.now earliest.now latest.now
-        best.now worst.now k) buffer.new result }
-{
-    let mut at = 0;
-    let mut i = 0;
-    while i < k {
-        at = put_stroke(buffer, at, stroke(phrase, earliest, latest, best, worst, i));
-        i += 1;
+    // How long the lines of k strokes are.
+    pub fn length(&self, k: usize) -> usize
+        requires { (k ≤ most_jobs) × Keyed self.now.phrase.now k }
+        ensures { (result ≡ length (strokes_text self.now.phrase.now self.now.earliest.now self.now.latest.now
+            self.now.best.now self.now.worst.now k)) × (result ≤ k * longest_stroke) }
+    {
+        let mut total = 0;
+        for i in 0..k {
+            total += stroke_length(self.stroke(i));
+        }
+        total
     }
-    at
+
+    // Writes the lines of k strokes.
+    pub fn put(&self, buffer: &mut [u8], k: usize) -> usize
+        requires { (k ≤ most_jobs) × Keyed self.now.phrase.now k
+            × Room buffer.old 0 (strokes_text self.now.phrase.now self.now.earliest.now self.now.latest.now
+            self.now.best.now self.now.worst.now k) }
+        ensures { Written buffer.old 0 (strokes_text self.now.phrase.now self.now.earliest.now self.now.latest.now
+            self.now.best.now self.now.worst.now k) buffer.new result }
+    {
+        let mut at = 0;
+        for i in 0..k {
+            at = put_stroke(buffer, at, self.stroke(i));
+        }
+        at
+    }
 }

@@ -19,27 +19,11 @@ pub fn tally(phrase: &[u32; PHRASE_WORDS], k: usize) -> [u16; MOST_BELLS]
     ensures { result ≡ tallied phrase.now k }
 {
     let mut counts = [0u16; MOST_BELLS];
-    let mut i = 0;
-    while i < k {
+    for i in 0..k {
         let bell = note_word(phrase, i, STRUCK) as usize;
         counts[bell] += 1;
-        i += 1;
     }
     counts
-}
-
-// What the line of bell b shows. All its strokes have one longest execution, the bell's.
-fn bell_total(phrase: &[u32; PHRASE_WORDS], counts: &[u16; MOST_BELLS], b: usize) -> BellTotal
-    requires { (b < most_bells) × Few counts.now }
-    ensures { (result ≡ total_in phrase.now counts.now b) × (result.hold ≤ most_jobs * 4294967295) }
-{
-    let strokes = counts[b] as u32;
-    let execution = bell_word(phrase, b, MOST_EXECUTION);
-    BellTotal {
-        number: b,
-        strokes,
-        hold: strokes as u64 * execution as u64,
-    }
 }
 
 fn text_length(b: BellTotal) -> usize
@@ -61,50 +45,63 @@ fn put_text(buffer: &mut [u8], at: usize, b: BellTotal) -> usize
     put_bell(buffer, at, b)
 }
 
-// How long the lines of n bells are.
-pub fn bells_length(phrase: &[u32; PHRASE_WORDS], counts: &[u16; MOST_BELLS], n: usize) -> usize
-    requires { (n ≤ most_bells) × Few counts.now }
-    ensures { (result ≡ length (bells_text_in phrase.now counts.now n)) × (result ≤ n * longest_bell) }
-{
-    let mut total = 0;
-    let mut b = 0;
-    while b < n {
-        total += text_length(bell_total(phrase, counts, b));
-        b += 1;
-    }
-    total
+// What the lines of a phrase's first n bells are formed from: the phrase, and how many strokes each bell has.
+#[derive(Clone, Copy)]
+pub struct Bells<'a> {
+    pub phrase: &'a [u32; PHRASE_WORDS],
+    pub counts: &'a [u16; MOST_BELLS],
+    pub n: usize,
 }
 
-// The lines of n bells.
-pub fn put_bells(
-    buffer: &mut [u8],
-    start: usize,
-    phrase: &[u32; PHRASE_WORDS],
-    counts: &[u16; MOST_BELLS],
-    n: usize,
-) -> usize
-    requires { (n ≤ most_bells) × Few counts.now × Room buffer.old start (bells_text_in phrase.now counts.now n) }
-    ensures { Written buffer.old start (bells_text_in phrase.now counts.now n) buffer.new result }
-{
-    let mut at = start;
-    let mut b = 0;
-    while b < n {
-        at = put_text(buffer, at, bell_total(phrase, counts, b));
-        b += 1;
+impl Bells<'_> {
+    // What the line of bell b shows. All its strokes have one longest execution, the bell's.
+    fn total(&self, b: usize) -> BellTotal
+        requires { (b < most_bells) × Few self.now.counts.now }
+        ensures { (result ≡ total_in self.now.phrase.now self.now.counts.now b) × (result.hold ≤ most_jobs * 4294967295) }
+    {
+        let strokes = self.counts[b] as u32;
+        let execution = bell_word(self.phrase, b, MOST_EXECUTION);
+        BellTotal {
+            number: b,
+            strokes,
+            hold: strokes as u64 * execution as u64,
+        }
     }
-    at
-}
 
-// The hold of all strokes, formed from the lines of n bells.
-pub fn all_hold(phrase: &[u32; PHRASE_WORDS], counts: &[u16; MOST_BELLS], n: usize) -> u64
-    requires { (n ≤ most_bells) × Few counts.now }
-    ensures { result ≡ all_hold_in phrase.now counts.now n }
-{
-    let mut total = 0u64;
-    let mut b = 0;
-    while b < n {
-        total += bell_total(phrase, counts, b).hold;
-        b += 1;
+    // How long the lines are.
+    pub fn length(&self) -> usize
+        requires { (self.now.n ≤ most_bells) × Few self.now.counts.now }
+        ensures { (result ≡ length (bells_text_in self.now.phrase.now self.now.counts.now self.now.n)) × (result ≤ self.now.n * longest_bell) }
+    {
+        let mut total = 0;
+        for b in 0..self.n {
+            total += text_length(self.total(b));
+        }
+        total
     }
-    total
+
+    // Writes the lines.
+    pub fn put(&self, buffer: &mut [u8], start: usize) -> usize
+        requires { (self.now.n ≤ most_bells) × Few self.now.counts.now
+            × Room buffer.old start (bells_text_in self.now.phrase.now self.now.counts.now self.now.n) }
+        ensures { Written buffer.old start (bells_text_in self.now.phrase.now self.now.counts.now self.now.n) buffer.new result }
+    {
+        let mut at = start;
+        for b in 0..self.n {
+            at = put_text(buffer, at, self.total(b));
+        }
+        at
+    }
+
+    // The hold of all strokes, formed from the lines.
+    pub fn hold(&self) -> u64
+        requires { (self.now.n ≤ most_bells) × Few self.now.counts.now }
+        ensures { result ≡ all_hold_in self.now.phrase.now self.now.counts.now self.now.n }
+    {
+        let mut total = 0u64;
+        for b in 0..self.n {
+            total += self.total(b).hold;
+        }
+        total
+    }
 }

@@ -8,7 +8,7 @@ ghost use Rattle.text.specs.internal.Written.{Room, Written};
 ghost use Rattle.tally.specs.internal.Counted.{Countable, totals_text_in};
 ghost use Rattle.tally.specs.internal.Longest.{longest_totals};
 
-use crate::bells::{all_hold, bells_length, put_bells, tally};
+use crate::bells::{Bells, tally};
 use lines::lengths::last_length;
 use lines::lines::put_last;
 use rows::{BELL_COUNT, PHRASE_WORDS, header_word};
@@ -20,7 +20,12 @@ pub fn totals_length(phrase: &[u32; PHRASE_WORDS], k: usize, states: u64) -> usi
 {
     let counts = tally(phrase, k);
     let n = header_word(phrase, BELL_COUNT) as usize;
-    bells_length(phrase, &counts, n) + last_length(k, states, all_hold(phrase, &counts, n))
+    let bells = Bells {
+        phrase,
+        counts: &counts,
+        n,
+    };
+    bells.length() + last_length(k, states, bells.hold())
 }
 
 pub fn put_totals(
@@ -35,6 +40,11 @@ pub fn put_totals(
 {
     let counts = tally(phrase, k);
     let n = header_word(phrase, BELL_COUNT) as usize;
-    let end = put_bells(buffer, at, phrase, &counts, n);
-    put_last(buffer, end, k, states, all_hold(phrase, &counts, n))
+    let bells = Bells {
+        phrase,
+        counts: &counts,
+        n,
+    };
+    let end = bells.put(buffer, at);
+    put_last(buffer, end, k, states, bells.hold())
 }

@@ -1,7 +1,7 @@
 // Text written into a buffer: fixed bytes, decimal numbers, names of keys, and how long these are. A writer answers where its text ends.
 #![tactic(auto)]
 
-ghost use Rattle.std.specs.Prelude.{◌≡◌, [], ◌∷◌, ◌+◌, ◌/◌, ◌%◌, ◌≤◌, ◌<◌, get_or, length, take};
+ghost use Rattle.std.specs.Prelude.{◌≡◌, [], ◌∷◌, ◌+◌, ◌/◌, ◌%◌, ◌≤◌, ◌<◌, get_or, length};
 ghost use Rattle.text.specs.Decimal.{digit, decimal};
 ghost use Rattle.text.specs.Keys.{names, key_text};
 ghost use Rattle.text.specs.internal.Written.{Room, Written};
@@ -10,12 +10,9 @@ pub fn put_bytes(buffer: &mut [u8], at: usize, s: &[u8]) -> usize
     requires { Room buffer.old at s.now }
     ensures { Written buffer.old at s.now buffer.new result }
 {
-    let mut i = 0;
-    while i < s.len() {
-        buffer[at + i] = s[i];
-        i += 1;
-    }
-    at + i
+    let end = at + s.len();
+    buffer[at..end].copy_from_slice(s);
+    end
 }
 
 // The last digit of n.
@@ -23,7 +20,7 @@ fn put_digit(buffer: &mut [u8], at: usize, n: u64) -> usize
     requires { at < length buffer.old }
     ensures { Written buffer.old at (digit n ∷ []) buffer.new result }
 {
-    buffer[at] = (48 + n % 10) as u8;
+    buffer[at] = b'0' + (n % 10) as u8;
     at + 1
 }
 
@@ -36,7 +33,8 @@ fn put_pair(buffer: &mut [u8], at: usize, n: u64) -> usize
     put_digit(buffer, last, n)
 }
 
-// Two digits at a time: half as many calls and divisions.
+// Two digits at a time: half as many calls and divisions. Not by `write!`: the buffer is lent (no heap), and into a byte slice std promises neither the
+// text nor that there is no error.
 pub fn put_decimal(buffer: &mut [u8], at: usize, n: u64) -> usize
     requires { Room buffer.old at (decimal n) }
     ensures { Written buffer.old at (decimal n) buffer.new result }
@@ -75,46 +73,29 @@ pub fn digits(n: u64) -> usize
     let mut rest = n;
     let mut count = 0;
     while 10000 <= rest {
-        rest = rest / 10000;
+        rest /= 10000;
         count += 4;
     }
     count + few_digits(rest)
 }
 
-// The bytes of a note's name, and how many of them it has.
-#[derive(Clone, Copy)]
-struct Name([u8; 2], usize);
-
-const NAMES: [Name; 12] = [
-    Name(*b"C ", 1),
-    Name(*b"C#", 2),
-    Name(*b"D ", 1),
-    Name(*b"D#", 2),
-    Name(*b"E ", 1),
-    Name(*b"F ", 1),
-    Name(*b"F#", 2),
-    Name(*b"G ", 1),
-    Name(*b"G#", 2),
-    Name(*b"A ", 1),
-    Name(*b"A#", 2),
-    Name(*b"B ", 1),
+// The names of the notes of an octave, from C on.
+const NAMES: [&[u8]; 12] = [
+    b"C", b"C#", b"D", b"D#", b"E", b"F", b"F#", b"G", b"G#", b"A", b"A#", b"B",
 ];
 
-fn name_of(key: u32) -> Name
-    ensures { (result.1 ≡ length (get_or names (key % 12) [])) × (take result.1 result.0 ≡ get_or names (key % 12) []) }
+// The name of a key's note.
+fn name_of(key: u32) -> &'static [u8]
+    ensures { result.now ≡ get_or names (key % 12) [] }
 {
-    let i = (key % 12) as usize;
-    NAMES[i]
+    NAMES[(key % 12) as usize]
 }
 
 pub fn put_key(buffer: &mut [u8], at: usize, key: u32) -> usize
     requires { (12 ≤ key) × Room buffer.old at (key_text key) }
     ensures { Written buffer.old at (key_text key) buffer.new result }
 {
-    let name = name_of(key);
-    let bytes = name.0;
-    let len = name.1;
-    let end = put_bytes(buffer, at, &bytes[..len]);
+    let end = put_bytes(buffer, at, name_of(key));
     put_decimal(buffer, end, (key / 12 - 1) as u64)
 }
 
@@ -123,7 +104,5 @@ pub fn key_length(key: u32) -> usize
     requires { 12 ≤ key }
     ensures { (result ≡ length (key_text key)) × (result ≤ 11) }
 {
-    let name = name_of(key);
-    let len = name.1;
-    len + digits((key / 12 - 1) as u64)
+    name_of(key).len() + digits((key / 12 - 1) as u64)
 }

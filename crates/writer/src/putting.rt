@@ -6,7 +6,6 @@ ghost use Rattle.format.specs.Bytes.{records};
 ghost use Rattle.format.specs.Layout.{first, bell_bytes, most_bells};
 ghost use Rattle.format.specs.Valid.{Valid};
 ghost use Rattle.format.specs.Writing.{bell_file, note_file, written};
-ghost use Rattle.format.specs.internal.Sized.{Sized};
 ghost use Rattle.fields.specs.internal.Layouts.{layout_of};
 ghost use Rattle.rows.specs.BellRow.{bells_of_rows};
 ghost use Rattle.rows.specs.NoteRow.{notes_of_rows};
@@ -17,27 +16,25 @@ use encoding::bells::put_bell;
 use encoding::head::put_head;
 use encoding::notes::put_note;
 use encoding::numbers::put_8;
-use fields::layout::{Layout, NOTE_BYTES, bell_bytes, bells_at, layout_of, note_count_at};
+use fields::layout::{Layout, NOTE_BYTES};
 use rows::bell::BELL_WORDS;
 use rows::note::{LISTED_COUNT, NOTE_WORDS};
 use rows::{BELL_COUNT, BELL_ROWS, CORES, NOTE_COUNT, NOTE_ROWS, PHRASE_WORDS, SHIFT, VERSION};
 
 // The records of the first n bells, from `start` on.
 fn put_bells(phrase: &[u32], l: Layout, start: usize, n: usize, file: &mut [u8])
-    requires { Sized (layout_of l) × (phrase_words ≤ length phrase.now) × (n ≤ most_bells) × (start + n * bell_bytes (layout_of l) ≤ length file.old)
+    requires { (phrase_words ≤ length phrase.now) × (n ≤ most_bells) × (start + n * bell_bytes (layout_of l) ≤ length file.old)
         × BellsFit (layout_of l) (bells_of_rows (drop bell_rows_at phrase.now) n) }
     ensures { file.new ≡ placed file.old start
         (records (bell_file (layout_of l)) (bells_of_rows (drop bell_rows_at phrase.now) n)) }
 {
-    let width = bell_bytes(l);
+    let width = l.bell_bytes();
     let mut at = start;
-    let mut i = 0;
-    while i < n {
+    for i in 0..n {
         let from = BELL_ROWS + i * BELL_WORDS;
         let end = at + width;
         put_bell(&phrase[from..from + BELL_WORDS], l, &mut file[at..end]);
         at = end;
-        i += 1;
     }
 }
 
@@ -50,14 +47,12 @@ fn put_notes(phrase: &[u32], start: usize, count: usize, file: &mut [u8])
         (records (note_file first) (notes_of_rows (drop note_rows_at phrase.now) count)) }
 {
     let mut at = start;
-    let mut i = 0;
-    while i < count {
+    for i in 0..count {
         let from = NOTE_ROWS + i * NOTE_WORDS;
         let row = &phrase[from..from + NOTE_WORDS];
         let end = at + (1 + NOTE_BYTES as usize + row[LISTED_COUNT] as usize);
         put_note(row, &mut file[at..end]);
         at = end;
-        i += 1;
     }
 }
 
@@ -67,8 +62,8 @@ pub fn put_file(phrase: &[u32; PHRASE_WORDS], file: &mut [u8])
     ensures { file.new ≡ written (phrase_of phrase.now) }
 {
     let version = phrase[VERSION];
-    let l = layout_of(version);
-    let first = bells_at(l);
+    let l = Layout::of(version);
+    let first = l.bells_at();
     let bells = phrase[BELL_COUNT];
     let size = file.len() as u32;
     put_head(
@@ -81,7 +76,7 @@ pub fn put_file(phrase: &[u32; PHRASE_WORDS], file: &mut [u8])
         bells,
     );
     put_bells(phrase, l, first, bells as usize, file);
-    let at = note_count_at(l, bells as usize);
+    let at = l.note_count_at(bells as usize);
     let count = phrase[NOTE_COUNT];
     put_8(file, at, count);
     put_notes(phrase, at + 1, count as usize, file);

@@ -1,12 +1,12 @@
 -- The two halves of the table, and the answer that an outcome gives with the words of the observed ranges. Assumes nothing.
-use Rattle.std.specs.Prelude.{ℕ, ◌+◌, ◌*◌, ◌≤◌, ◌<◌, ◌⊎◌, List}
+use Rattle.std.specs.Prelude.{ℕ, ◌+◌, ◌*◌, ◌≤◌, ◌<◌, ◌⊎◌, List, Result, Ok, Err}
 use Rattle.model.specs.Exploration.{Verdict, accepted, refused, late, state_words}
 use Rattle.states.specs.internal.Slots.{slot_of}
 use Rattle.steps.specs.internal.Observed.{observed_of}
 use Rattle.steps.specs.internal.Progress.{Linkable}
 use Rattle.steps.specs.declared.shape.Shape.{Shape}
-use Rattle.analysis.specs.declared.levels.Analysed.{Analysed}
-use Rattle.analysis.specs.declared.levels.Analysed.TheVariants.{Accepted, Full, Late}
+use Rattle.steps.specs.declared.stop.Stop.{Stop}
+use Rattle.steps.specs.declared.stop.Stop.TheVariants.{Full, Late}
 
 -- the words of a half
 abbrev pub half_words : Shape → ℕ
@@ -22,7 +22,7 @@ pub record Halves (words size from to : ℕ) : Type 0 where
 abbrev pub AllLinkable : Shape → List ℕ → ℕ → Type 0
 AllLinkable shape half n = (j : ℕ) → j < n → Linkable shape (slot_of shape.cores shape.jobs half j)
 
-abbrev pub verdict_in : ℕ → Analysed → List ℕ → Verdict
-verdict_in k (Accepted c) seen = accepted (observed_of k seen) c
-verdict_in k (Full l) seen = refused 13 l
-verdict_in k (Late i e f) seen = late i e f
+abbrev pub verdict_in : ℕ → Result ℕ Stop → List ℕ → Verdict
+verdict_in k (Ok c) seen = accepted (observed_of k seen) c
+verdict_in k (Err (Full l)) seen = refused 13 l
+verdict_in k (Err (Late i e f)) seen = late i e f

@@ -5,4 +5,4 @@ use Rattle.checker.proofs.analysed.Goals as goal
 
 pub accepting-requires : goal.accepting-requires
 accepting-requires c =
-    all_finished _ c.analyse-outcome.new.seen _ _ _ _ c.requires.0 c.requires.1 c.analyse-outcome.ensures.observed (sym c.in-Accepted.ensures.seen_after)
+    all_finished _ c.analyse.new.seen _ _ _ _ c.requires.0 c.requires.1 c.analyse.ensures.observed (sym c.in-Ok.ensures.seen_after)

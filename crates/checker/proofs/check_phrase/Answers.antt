@@ -10,17 +10,17 @@ use Rattle.checker.proofs.check_phrase.Goals as goal
 pub analysed_phrase-requires : goal.analysed_phrase-requires
 analysed_phrase-requires c =
     let bytes : AreBytes c.args.file.now = λ i b. omega (arith, c.type_inv.file i) in
-    handed_on c.args.file.now _ bytes (sym c.in-Whole.ensures.value) c.in-Whole.ensures.phrase_after
+    handed_on c.args.file.now _ bytes (sym c.in-Ok.ensures.value) c.in-Ok.ensures.phrase_after
 
-pub returns-in-Whole-clause-answer : goal.returns-in-Whole-clause-answer
-returns-in-Whole-clause-answer c =
+pub returns-in-Ok-clause-answer : goal.returns-in-Ok-clause-answer
+returns-in-Ok-clause-answer c =
     let bytes : AreBytes c.args.file.now = λ i b. omega (arith, c.type_inv.file i) in
-    let is = sym (phrase_read c.args.file.now _ bytes (sym c.in-Whole.ensures.value) c.in-Whole.ensures.phrase_after) in
+    let is = sym (phrase_read c.args.file.now _ bytes (sym c.in-Ok.ensures.value) c.in-Ok.ensures.phrase_after) in
     c.analysed_phrase.ensures.value ∙ ap (λ o. checked_of o (length c.args.table.now)) is
 
-pub returns-in-Whole-clause-table : goal.returns-in-Whole-clause-table
-returns-in-Whole-clause-table c =
+pub returns-in-Ok-clause-table : goal.returns-in-Ok-clause-table
+returns-in-Ok-clause-table c =
     let bytes : AreBytes c.args.file.now = λ i b. omega (arith, c.type_inv.file i) in
-    let is = sym (phrase_read c.args.file.now _ bytes (sym c.in-Whole.ensures.value) c.in-Whole.ensures.phrase_after) in
+    let is = sym (phrase_read c.args.file.now _ bytes (sym c.in-Ok.ensures.value) c.in-Ok.ensures.phrase_after) in
     let used = ap (λ o. used_words o (length c.args.table.now)) is in
     rw used at c.analysed_phrase.ensures.table_kept

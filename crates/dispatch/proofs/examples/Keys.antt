@@ -1,5 +1,5 @@
 -- Keys of starts worked out by hand, in tables with one result each; and cores and jobs that are not the first. Assumes nothing.
-use Rattle.std.specs.Prelude.{ℕ, zero, suc, ◌≤◌, ◌<◌, ◌≡◌, refl, Bool, true, false, List, [], ◌∷◌, map, ltb, get_or}
+use Rattle.std.specs.Prelude.{ℕ, zero, suc, ◌≤◌, ◌<◌, ◌≡◌, refl, Bool, true, false, List, [], ◌∷◌, map, ltb, get_or, Some, None}
 use Rattle.std.proofs.Common.{arith}
 use Rattle.model.specs.Jobs.{Job}
 use Rattle.model.proofs.examples.Marked.{stroke, on_own_bells}
@@ -100,30 +100,29 @@ lowest (suc j) b = (rest j (omega (arith, b)), λ e. omega arith)
     rest (suc (suc zero)) b = omega arith
     rest (suc (suc (suc j))) b = absurd (omega arith)
 
-pub the_smaller : IsNext four 4 1
-the_smaller = record { inside = omega arith; none = λ e. absurd (omega (arith, e)); awake = λ h. omega arith; least = λ h. lowest }
+pub the_smaller : IsNext four 4 (Some 1)
+the_smaller = record { inside = omega arith; awake = omega arith; least = lowest }
 
 -- jobs 0 and 3 have larger keys, and job 2 has the same
-pub not_the_first : IsNext four 4 0 → ⊥
-not_the_first h = omega (arith, (h.least (omega arith) 1 (omega arith)).0)
+pub not_the_first : IsNext four 4 (Some 0) → ⊥
+not_the_first h = omega (arith, (h.least 1 (omega arith)).0)
 
-pub not_the_last : IsNext four 4 3 → ⊥
-not_the_last h = omega (arith, (h.least (omega arith) 1 (omega arith)).0)
+pub not_the_last : IsNext four 4 (Some 3) → ⊥
+not_the_last h = omega (arith, (h.least 1 (omega arith)).0)
 
-pub not_the_larger : IsNext four 4 2 → ⊥
-not_the_larger h = omega (arith, (h.least (omega arith) 1 (omega arith)).1 refl)
+pub not_the_larger : IsNext four 4 (Some 2) → ⊥
+not_the_larger h = omega (arith, (h.least 1 (omega arith)).1 refl)
 
 -- one starts, as they are awake; and there is no job 5
-pub not_none : IsNext four 4 4 → ⊥
-not_none h = omega (arith, h.none refl 0 (omega arith))
+pub not_none : IsNext four 4 None → ⊥
+not_none h = omega (arith, h 0 (omega arith))
 
-pub not_beyond : IsNext four 4 5 → ⊥
+pub not_beyond : IsNext four 4 (Some 5) → ⊥
 not_beyond h = omega (arith, h.inside)
 
 -- where none is awake none starts, be there one that is asleep
-pub none_awake : IsNext (λ j. asleep_key) 1 1
-none_awake =
-    record { inside = omega arith; none = λ e j b. omega arith; awake = λ h. absurd (omega (arith, h)); least = λ h. absurd (omega (arith, h)) }
+pub none_awake : IsNext (λ j. asleep_key) 1 None
+none_awake = λ j b. omega arith
 
-pub not_asleep : IsNext (λ j. asleep_key) 1 0 → ⊥
-not_asleep h = omega (arith, h.awake (omega arith))
+pub not_asleep : IsNext (λ j. asleep_key) 1 (Some 0) → ⊥
+not_asleep h = omega (arith, h.awake)

@@ -1,5 +1,5 @@
 -- Which core is free first, and which job starts next. Assumes nothing.
-use Rattle.std.specs.Prelude.{ℕ, ◌+◌, ◌*◌, ◌≤◌, ◌<◌, max, ◌≡◌, List, get_or}
+use Rattle.std.specs.Prelude.{ℕ, ◌+◌, ◌*◌, ◌≤◌, ◌<◌, max, ◌≡◌, List, get_or, Option, Some, None}
 use Rattle.model.specs.Jobs.{Job, job}
 use Rattle.dispatch.specs.internal.Wakes.{asleep}
 
@@ -19,9 +19,13 @@ key_of js wakes from j = start_key (max from (get_or wakes j 0)) (job js j).prio
 abbrev pub asleep_key : ℕ
 asleep_key = start_key asleep 0
 
--- of k jobs the one with the least key that is awake, the smallest such; k where none is awake
-pub record IsNext (key : ℕ → ℕ) (k r : ℕ) : Type 0 where
-  pub inside : r ≤ k
-  pub none : r ≡ k → (j : ℕ) → j < k → asleep_key ≤ key j
-  pub awake : r < k → key r < asleep_key
-  pub least : r < k → (j : ℕ) → j < k → (key r ≤ key j) × (key j ≡ key r → r ≤ j)
+-- of k jobs the one with the least key that is awake, the smallest such
+pub record IsLeast (key : ℕ → ℕ) (k r : ℕ) : Type 0 where
+  pub inside : r < k
+  pub awake : key r < asleep_key
+  pub least : (j : ℕ) → j < k → (key r ≤ key j) × (key j ≡ key r → r ≤ j)
+
+-- the job that starts next, or that none is awake
+abbrev pub IsNext : (ℕ → ℕ) → ℕ → Option ℕ → Type 0
+IsNext key k None = (j : ℕ) → j < k → asleep_key ≤ key j
+IsNext key k (Some r) = IsLeast key k r

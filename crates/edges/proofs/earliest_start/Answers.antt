@@ -5,4 +5,4 @@ use Rattle.edges.proofs.earliest_start.Goals as goal
 
 pub returns : goal.returns
 unfolding earliest_start
-returns c = omega (arith, c.larger.ensures, c.possibly_ready.ensures, first_possibly c.args.m c.args.k c.args.s.now c.requires.1.setting.cores)
+returns c = omega (arith, c.max.ensures, c.ready.ensures, first_possibly c.args.m c.args.k c.args.s.now c.requires.1.setting.cores)

@@ -23,7 +23,7 @@ certainly_ready_for-requires c = let p = c.requires in
     let js = jobs_of_rows c.args.rows.now c.args.k in
     let σ = state_of c.args.m c.args.k c.args.s.now in
     let ws = c.args.holders.now in
-    let t = c.loop-t.t in
+    let t = c.loop-holder.holder-index in
     let h : t < length ws = omega arith in
     let few = p.1.setting.jobs in
     let j = job_in js σ c.args.k few ws p.4 t h in
@@ -37,9 +37,9 @@ certainly_ready_for-requires c = let p = c.requires in
       λ e. omega (arith, place, ap (precedence js) (e ∙ j), c.precedence-own.ensures.0),
     )
 
-pub loop-t-preserved : goal.loop-t-preserved
-loop-t-preserved c = let p = c.requires in
-    let i = c.loop-t in
+pub loop-holder-preserved : goal.loop-holder-preserved
+loop-holder-preserved c = let p = c.requires in
+    let i = c.loop-holder in
     let js = jobs_of_rows c.args.rows.now c.args.k in
     let σ = state_of c.args.m c.args.k c.args.s.now in
     let ws = c.args.holders.now in
@@ -47,24 +47,22 @@ loop-t-preserved c = let p = c.requires in
     let own = c.precedence-own in
     let q : ℕ → Bool = λ j. before js j c.args.i in
     let f = certainly_ready_beside js σ c.args.i in
-    let b : i.t < length ws = omega arith in (
-      omega arith,
-      λ h.
-          let l = h.jobs in
-          let room : i.t < length l = omega (arith, as_many js σ c.args.k few ws h) in
-          let j = job_in js σ c.args.k few ws h i.t b in
-          let first : q (get_or l i.t 0) ≡ ltb (get_or ws i.t 0 / moments) own.result =
-          before_in js σ c.args.k few ws h i.t b c.args.i p.0 ∙ ap (ltb (get_or ws i.t 0 / moments)) (sym own.ensures.0) in
-          elim c.if-place-own.branch [
-            | then-place-own w ↦ w.first-is ∙ w.smaller-first.ensures ∙ ap (min i.first) (w.certainly_ready_for.ensures ∙ ap f j)
-                ∙ smallest_with q f l i.t i.first room (i.invariant.1 h) (first ∙ lt-ltb _ _ w.if-place-own.true) (omega (arith, w.certainly_ready_for.ensures, ap f j))
-            | else-place-own w ↦ w.first-is ∙ smallest_without q f l i.t i.first room (i.invariant.1 h) (first ∙ le-ltb _ _ w.if-place-own.false)
-          ],
-    )
+    let b : i.holder-index < length ws = omega arith in
+    λ h.
+    let l = h.jobs in
+    let room : i.holder-index < length l = omega (arith, as_many js σ c.args.k few ws h) in
+    let j = job_in js σ c.args.k few ws h i.holder-index b in
+    let first : q (get_or l i.holder-index 0) ≡ ltb (get_or ws i.holder-index 0 / moments) own.result =
+    before_in js σ c.args.k few ws h i.holder-index b c.args.i p.0 ∙ ap (ltb (get_or ws i.holder-index 0 / moments)) (sym own.ensures.0) in
+    elim c.if-place-own.branch [
+      | then-place-own w ↦ w.first-is ∙ w.min-first.ensures ∙ ap (min i.first) (w.certainly_ready_for.ensures ∙ ap f j)
+          ∙ smallest_with q f l i.holder-index i.first room (i.invariant h) (first ∙ lt-ltb _ _ w.if-place-own.true) (omega (arith, w.certainly_ready_for.ensures, ap f j))
+      | else-place-own w ↦ w.first-is ∙ smallest_without q f l i.holder-index i.first room (i.invariant h) (first ∙ le-ltb _ _ w.if-place-own.false)
+    ]
 
 pub returns : goal.returns
 returns c h = let js = jobs_of_rows c.args.rows.now c.args.k in
     let σ = state_of c.args.m c.args.k c.args.s.now in
-    let t = c.loop-t.t in
+    let t = c.loop-holder.holder-index in
     let e : take t h.jobs ≡ h.jobs = take_all t h.jobs (omega (arith, as_many js σ c.args.k c.requires.1.setting.jobs c.args.holders.now h)) in
-    c.loop-t.invariant.1 h ∙ ap (λ (l : List ℕ). limit_word (bound_over js σ c.args.i l)) e
+    c.loop-holder.invariant h ∙ ap (λ (l : List ℕ). limit_word (bound_over js σ c.args.i l)) e

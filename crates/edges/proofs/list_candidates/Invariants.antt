@@ -1,5 +1,5 @@
 -- The loop's invariant: the first n bytes are the candidates below j.
-use Prim.Native.Nat.{◌-◌, ◌≤◌, min}
+use Prim.Native.Nat.{◌≤◌, min}
 use mathlib.Core.Path.{◌≡◌}
 use mathlib.Core.List.{List}
 use lib.ListN.{length, take}
@@ -10,6 +10,3 @@ use Rattle.edges.proofs.list_candidates.Given as goal
 
 abbrev pub invariant-loop-j : goal.invariant-loop-j
 invariant-loop-j l = (l.n ≤ min l.j l.k) × (length l.list ≡ length l.initial.list) × ((js : List Job) → PredecessorSets js l.k l.sets → take l.n l.list ≡ candidates js (state_of l.m l.k l.s) (min l.j l.k))
-
-abbrev pub decreases-loop-j : goal.decreases-loop-j
-decreases-loop-j l = l.k - l.j

@@ -16,12 +16,12 @@ loop-j-preserved c = let a = c.args in
     let p = c.predecessor in
     let e : bit_or i.set (1 * 2 ^ p.result % 2 ^ 64) ≡ bit_or i.set (2 ^ get_or l i.j 0) =
     ap (bit_or i.set) (shifted_one 64 p.result (omega arith) ∙ ap (λ (x : ℕ). 2 ^ x) p.ensures.0) in
-    (i.invariant.0, rw e (join_next l i.j i.set i.invariant.1 (omega arith)), rw e (joined_below a.i i.set (get_or l i.j 0) i.invariant.2 (omega arith)))
+    (rw e (join_next l i.j i.set i.invariant.0 (omega arith)), rw e (joined_below a.i i.set (get_or l i.j 0) i.invariant.1 (omega arith)))
 
 pub returns : goal.returns
 returns c = let a = c.args in
     let i = c.loop-j in
     record {
-      members = joined_all (predecessors (jobs_of_rows a.rows.now a.k) a.i) i.j i.set i.invariant.1 (omega arith);
-      earlier = i.invariant.2;
+      members = joined_all (predecessors (jobs_of_rows a.rows.now a.k) a.i) i.j i.set i.invariant.0 (omega arith);
+      earlier = i.invariant.1;
     }

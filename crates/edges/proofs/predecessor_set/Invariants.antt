@@ -1,8 +1,8 @@
 -- The loop's invariant: each predecessor is in the set or left.
-use Prim.Native.Nat.{ℕ, ◌-◌, ◌<◌}
+use Prim.Native.Nat.{ℕ, ◌<◌}
 use mathlib.Core.Path.{◌≡◌}
 use mathlib.Core.Bool.{true, ◌||◌}
-use lib.ListN.{length, drop}
+use lib.ListN.{drop}
 use Rattle.model.specs.Folds.{member}
 use Rattle.model.specs.Jobs.{predecessors}
 use Rattle.jobs.specs.internal.JobRow.{jobs_of_rows}
@@ -10,9 +10,5 @@ use Rattle.states.specs.internal.Slots.{in_set}
 use Rattle.edges.proofs.predecessor_set.Given as goal
 
 abbrev pub invariant-loop-j : goal.invariant-loop-j
-invariant-loop-j l = (l.n ≡ length (predecessors (jobs_of_rows l.rows l.k) l.i))
-    × ((w : ℕ) → member w (predecessors (jobs_of_rows l.rows l.k) l.i) ≡ (in_set l.set w || member w (drop l.j (predecessors (jobs_of_rows l.rows l.k) l.i))))
+invariant-loop-j l = ((w : ℕ) → member w (predecessors (jobs_of_rows l.rows l.k) l.i) ≡ (in_set l.set w || member w (drop l.j (predecessors (jobs_of_rows l.rows l.k) l.i))))
     × ((w : ℕ) → in_set l.set w ≡ true → w < l.i)
-
-abbrev pub decreases-loop-j : goal.decreases-loop-j
-decreases-loop-j l = l.n - l.j

@@ -1,5 +1,5 @@
 -- What is given where the edges of a state are asked for, and what is answered. Assumes nothing.
-use Rattle.std.specs.Prelude.{ℕ, zero, suc, ◌+◌, ◌*◌, ◌<◌, ◌≤◌, min, ◌≡◌, Bool, true, cond, eqb, get_or, length}
+use Rattle.std.specs.Prelude.{ℕ, zero, suc, ◌+◌, ◌*◌, ◌<◌, ◌≤◌, min, ◌≡◌, Bool, true, cond, eqb, get_or, length, Option, Some, None}
 use mathlib.Core.List.{List, [], ◌∷◌, ◌++◌, map, foldl}
 use Rattle.model.specs.Limits.{latest_time, longest_rest}
 use Rattle.model.specs.Folds.{member, largest, all, Limit, infinite, finite, smaller}
@@ -13,8 +13,6 @@ use Rattle.jobs.specs.internal.JobRow.{jobs_of_rows, Setting}
 use Rattle.jobs.specs.internal.Order.{precedence}
 use Rattle.states.specs.declared.starting.JobStart.{JobStart}
 use Rattle.states.specs.internal.Slots.{in_set, state_of}
-use Rattle.edges.specs.declared.Edge.{Edge}
-use Rattle.edges.specs.declared.Edge.TheVariants.{NotEligible, Starts}
 
 -- the rows of a job set, and the words of a state, whose times are bounded
 pub record Readable (rows : List ℕ) (k : ℕ) (s : List ℕ) (m : ℕ) : Type 0 where
@@ -107,12 +105,12 @@ pub record Holding (js : List Job) (σ : State) (k past : ℕ) (list ws : List �
 abbrev pub start_of : List Job → State → ℕ → JobStart
 start_of js σ i = record { job = i; start = earliest_start js σ i; earliest = earliest_finish js σ i; latest = latest_finish js σ i }
 
--- the edge of job i, if it is eligible by document 01's two comparisons
-unfoldable pub edge_of : List Job → State → ℕ → Edge
+-- the edge of job i, if it is eligible by document 01's two comparisons; none if not
+unfoldable pub edge_of : List Job → State → ℕ → Option JobStart
 unfolding eligible earliest_start earliest_finish latest_finish
-edge_of js σ i = cond (eligible js σ i) (Starts (start_of js σ i)) NotEligible
+edge_of js σ i = cond (eligible js σ i) (Some (start_of js σ i)) None
 
 -- .. and by the one of its earliest and latest start
-unfoldable pub edge_in_order : List Job → State → ℕ → Edge
+unfoldable pub edge_in_order : List Job → State → ℕ → Option JobStart
 unfolding in_order earliest_start earliest_finish latest_finish
-edge_in_order js σ i = cond (in_order js σ i) (Starts (start_of js σ i)) NotEligible
+edge_in_order js σ i = cond (in_order js σ i) (Some (start_of js σ i)) None

@@ -1,25 +1,17 @@
-use mathlib.Core.Path.{◌≡◌, sym, ◌∙◌}
-use native.Mathlib.Omega.{arith}
+use mathlib.Core.Path.{◌∙◌}
+use lib.Dec.{eqb}
 use lib.ListN.{get_or}
+use borrow.Author.Tests.{tests}
+use Rattle.std.proofs.Common.{arith, rules}
+use Rattle.std.proofs.lemmas.Iterator.{YieldsList-from_range}
+use Rattle.std.proofs.lemmas.Iterator.Search.{any_from_yields_List}
 use Rattle.model.specs.Jobs.{predecessors}
 use Rattle.jobs.specs.internal.JobRow.{jobs_of_rows}
-use Rattle.jobs.proofs.Jobs.{search_fails, search_finds, search_goes_on}
+use Rattle.jobs.proofs.Jobs.{member_by_place}
 use Rattle.jobs.proofs.is_predecessor.Goals as goal
 
-pub returns-then-w-predecessor : goal.returns-then-w-predecessor
-returns-then-w-predecessor c = let a = c.args in
-    let i = c.loop-j in
-    let l = predecessors (jobs_of_rows a.rows.now a.k) a.i in
-    sym (search_finds a.w l i.j i.invariant.1 (omega (arith, i.invariant.0)) (c.if-w-predecessor.true ∙ c.predecessor.ensures.0))
-
-pub loop-j-preserved : goal.loop-j-preserved
-loop-j-preserved c = let a = c.args in
-    let l = predecessors (jobs_of_rows a.rows.now a.k) a.i in
-    let i = c.loop-j in
-    let other : a.w ≡ get_or l i.j 0 → ⊥ = λ e. c.if-w-predecessor.false (e ∙ sym c.predecessor.ensures.0) in
-    (i.invariant.0, search_goes_on a.w l i.j i.invariant.1 (omega (arith, i.invariant.0)) other)
-
 pub returns : goal.returns
-returns c = let a = c.args in
-    let i = c.loop-j in
-    sym (search_fails a.w (predecessors (jobs_of_rows a.rows.now a.k) a.i) i.j i.invariant.1 (omega (arith, i.invariant.0)))
+returns c = let l = predecessors (jobs_of_rows c.args.rows.now c.args.k) c.args.i in
+    let n = c.predecessor_count.result in
+    any_from_yields_List (λ j. eqb c.args.w (get_or l j 0)) _ _ _ c.any.ensures.ran (YieldsList-from_range 0 n n (cc) (omega arith)) (λ x b q k. search (rules, tests))
+    ∙ member_by_place c.args.w l 0 n (omega arith)

@@ -12,17 +12,16 @@ use Rattle.jobset.proofs.write_rows.Goals as goal
 
 pub loop-i-init : goal.loop-i-init
 loop-i-init c = let t = c.args.phrase.now in
-    (omega arith, note_count_holds t c.requires.0, rows_none (jobs_held t) c.args.rows.now)
+    (note_count_holds t c.requires.0, rows_none (jobs_held t) c.args.rows.now)
 
 pub loop-i-preserved : goal.loop-i-preserved
 loop-i-preserved c = let t = c.args.phrase.now in
     let js = jobs_held t in
     let v = c.loop-i in
-    let here : v.i < length js = omega (arith, v.invariant.1) in (
-      omega arith,
-      v.invariant.1,
+    let here : v.i < length js = omega (arith, v.invariant.0) in (
+      v.invariant.0,
       c.put_job.ensures
-          ∙ ap (λ (r : List ℕ). placed r (v.i * row_words) (job_row js v.i)) v.invariant.2
+          ∙ ap (λ (r : List ℕ). placed r (v.i * row_words) (job_row js v.i)) v.invariant.1
           ∙ rows_more js v.i c.args.rows.now (λ j b. few_predecessors t c.requires.0 j (omega (arith, here, b))) (omega (arith, here, few_jobs t c.requires.0, c.requires.1)),
     )
 
@@ -30,5 +29,5 @@ pub returns : goal.returns
 unfolding jobs_held
 returns c = let js = jobs_held c.args.phrase.now in
     let v = c.loop-i in
-    let all : v.i ≡ length js = omega (arith, v.invariant.0, v.invariant.1) in
-    v.invariant.2 ∙ ap (λ (k : ℕ). job_rows js k ++ drop (k * row_words) c.args.rows.now) all
+    let all : v.i ≡ length js = omega (arith, v.invariant.0) in
+    v.invariant.1 ∙ ap (λ (k : ℕ). job_rows js k ++ drop (k * row_words) c.args.rows.now) all

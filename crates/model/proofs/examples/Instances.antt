@@ -113,7 +113,7 @@ lone_executes_short a = omega (arith, a.executions 0 (omega arith))
 pub lone_executes_long : Admissible lone (scenario (2 ∷ []) (5 ∷ [])) → ⊥
 lone_executes_long a = omega (arith, a.executions 0 (omega arith))
 
--- ---- phrases that are well_formed_holds, and that are not
+-- ---- phrases that are well-formed, and that are not
 
 listed_zero : (w : ℕ) → member w (0 ∷ []) ≡ true → w < 1
 unfolding member

@@ -11,6 +11,6 @@ use Rattle.phrase.proofs.phrase_report_with.Goals as goal
 pub returns-clause-short : goal.returns-clause-short
 returns-clause-short c =
     let words = length c.args.table.now in
-    let l = ap (λ (r : Reported). r.length) c.report-reported.ensures.result in
+    let l = ap (λ (r : Reported). r.length) c.report.ensures.result in
     let short = none_only_short (text_of (reading c.args.file.now) words) c.args.text.now (text_long (reading c.args.file.now) words) in
     λ z. short (sym l ∙ z)

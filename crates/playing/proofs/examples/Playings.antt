@@ -1,5 +1,5 @@
 -- Playings read, refused and worked out by hand, each kind in one table with one result; and times that the promise rules out. Assumes nothing.
-use Rattle.std.specs.Prelude.{ℕ, ◌≡◌, refl, List, [], ◌∷◌, ◌++◌, map, length, replicate, set}
+use Rattle.std.specs.Prelude.{ℕ, ◌≡◌, refl, List, [], ◌∷◌, ◌++◌, map, length, replicate, set, Ok, Err}
 use Rattle.std.proofs.Common.{sym, ap, arith}
 use Rattle.std.proofs.lemmas.Bool.{false≢true}
 use Rattle.model.specs.Jobs.{Job}
@@ -18,7 +18,6 @@ use Rattle.checking.specs.Checking.{per_job}
 use Rattle.checking.proofs.examples.Checks.{version_nine, on_two, late_phrase, no_stroke}
 use Rattle.playing.specs.Playing.{scenario_in, scenario_for, Times, played_for, played_of, starts_of, finishes_of, admission_of}
 use Rattle.playing.specs.Promise.{RanAs, Inside}
-use Rattle.playing.specs.declared.answers.Admission.TheVariants.{Admitted, Refused}
 
 -- ---- bytes
 
@@ -132,7 +131,8 @@ unfolding scenario_for tabulate
 as_read = refl
 
 -- what the code answers
-pub answers : map (λ (o : Outcome ℕ). admission_of o) (ok 5 ∷ refused 17 0 ∷ refused 18 3 ∷ []) ≡ Admitted ∷ Refused 17 0 ∷ Refused 18 3 ∷ []
+pub answers : map (λ (o : Outcome ℕ). admission_of o) (ok 5 ∷ refused 17 0 ∷ refused 18 3 ∷ [])
+    ≡ Ok tt ∷ Err (record { number = 17; place = 0 }) ∷ Err (record { number = 18; place = 3 }) ∷ []
 answers = refl
 
 -- ---- worked out

@@ -1,17 +1,10 @@
--- A file, and an example, in the input of an example program. Assumes nothing.
-use Rattle.std.specs.Prelude.{ℕ, ◌≤◌, ◌<◌, ◌≡◌, List, length}
-use Rattle.printing.specs.declared.Next.{Next}
-use Rattle.printing.specs.declared.Next.TheVariants.{File, Nothing}
-use Rattle.printing.specs.declared.NextExample.{NextExample}
-use Rattle.printing.specs.declared.NextExample.TheVariants.{Found}
-use Rattle.printing.specs.declared.NextExample.TheVariants.{Nothing as NoExample}
+-- A number, and a file, at the front of the input of an example program. Assumes nothing.
+use Rattle.std.specs.Prelude.{ℕ, ◌+◌, ◌≤◌, ◌≡◌, List, ◌++◌, length, drop}
 
--- a file that was found begins at this place and lies in the input
-abbrev pub FileIn : List ℕ → ℕ → Next → Type 0
-FileIn input start (File from to) = (from ≡ start) × (from ≤ to) × (to ≤ length input)
-FileIn input start Nothing = Unit {0}
+-- after the two bytes of a number this is left
+abbrev pub NumberIn : List ℕ → List ℕ → Type 0
+NumberIn input rest = (length rest + 2 ≡ length input) × (rest ≡ drop 2 input)
 
--- the file of an example that was found lies in the input, and ends after the place where the example begins
-abbrev pub ExampleIn : List ℕ → ℕ → NextExample → Type 0
-ExampleIn input at (Found x) = (at < x.end) × (x.start ≤ x.end) × (x.end ≤ length input)
-ExampleIn input at NoExample = Unit {0}
+-- after a head of so many bytes a file begins, which lies in the input, and after it this is left
+abbrev pub FileIn : ℕ → List ℕ → List ℕ → List ℕ → Type 0
+FileIn head input file rest = (head ≤ length input) × (drop head input ≡ file ++ rest)

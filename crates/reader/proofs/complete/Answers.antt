@@ -3,6 +3,6 @@ use Rattle.reader.proofs.Completing.{all_cleared}
 use Rattle.reader.proofs.complete.Goals as goal
 
 pub returns : goal.returns
-returns c = let bells = c.clear in
-    let notes = c.clear-2 in
-    all_cleared c.args.counts c.args.phrase.now c.requires.0 c.requires.1 c.requires.2 bells.new.dst notes.new.dst bells.ensures notes.ensures
+returns c =
+    all_cleared c.args.counts c.args.phrase.now c.requires.0 c.requires.1 c.requires.2 c.fill.new.self
+    c.fill-2.new.self (c.fill.ensures.after (λ y e. e)) (c.fill-2.ensures.after (λ y e. e))

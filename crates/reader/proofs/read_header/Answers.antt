@@ -29,24 +29,24 @@ cores_tested : (c : After-is_within-2) → c.is_within-2.result ≡ within 1 mos
 cores_tested c = c.is_within-2.ensures ∙ ap (within 1 most_cores) c.byte-2.ensures.0
 
 pub returns-then-file-lt1 : goal.returns-then-file-lt1
-returns-then-file-lt1 c = ap reading_of (sym (empty c.args.file.now c.if-file-lt1.true))
+returns-then-file-lt1 c = c.refuse.ensures ∙ ap reading_of (sym (empty c.args.file.now c.if-file-lt1.true))
 
 pub returns-then-not-is_within : goal.returns-then-not-is_within
 returns-then-not-is_within c = let wrong = sym (version_tested (goal.at.returns-then-not-is_within c).After-is_within) ∙ c.if-not-is_within.true in
-    ap reading_of (sym (bad_version c.args.file.now c.if-file-lt1.false wrong))
+    c.refuse-then-not-is_within.ensures ∙ ap reading_of (sym (bad_version c.args.file.now c.if-file-lt1.false wrong))
 
 pub returns-then-file-lt-UNCOUNTED_BYTES : goal.returns-then-file-lt-UNCOUNTED_BYTES
-returns-then-file-lt-UNCOUNTED_BYTES c = ap reading_of (sym (no_header c.args.file.now c.if-file-lt1.false (versioned (goal.at.returns-then-file-lt-UNCOUNTED_BYTES c).Else-not-is_within) c.if-file-lt-UNCOUNTED_BYTES.true))
+returns-then-file-lt-UNCOUNTED_BYTES c = c.refuse-then-file-lt-UNCOUNTED_BYTES.ensures ∙ ap reading_of (sym (no_header c.args.file.now c.if-file-lt1.false (versioned (goal.at.returns-then-file-lt-UNCOUNTED_BYTES c).Else-not-is_within) c.if-file-lt-UNCOUNTED_BYTES.true))
 
 pub returns-then-count-file : goal.returns-then-count-file
-returns-then-count-file c = ap reading_of (sym (bad_bytes c.args.file.now c.if-file-lt1.false (versioned (goal.at.returns-then-count-file c).Else-not-is_within) c.if-file-lt-UNCOUNTED_BYTES.false (λ e. c.if-count-file.true (c.be_32-count.ensures ∙ e))))
+returns-then-count-file c = c.refuse-then-count-file.ensures ∙ ap reading_of (sym (bad_bytes c.args.file.now c.if-file-lt1.false (versioned (goal.at.returns-then-count-file c).Else-not-is_within) c.if-file-lt-UNCOUNTED_BYTES.false (λ e. c.if-count-file.true (c.be_32-count.ensures ∙ e))))
 
 pub returns-then-file-le-CORES_AT : goal.returns-then-file-le-CORES_AT
-returns-then-file-le-CORES_AT c = ap reading_of (sym (no_cores c.args.file.now c.if-file-lt1.false (versioned (goal.at.returns-then-file-le-CORES_AT c).Else-not-is_within) c.if-file-lt-UNCOUNTED_BYTES.false (measured (goal.at.returns-then-file-le-CORES_AT c).Else-count-file) c.if-file-le-CORES_AT.true))
+returns-then-file-le-CORES_AT c = c.refuse-then-file-le-CORES_AT.ensures ∙ ap reading_of (sym (no_cores c.args.file.now c.if-file-lt1.false (versioned (goal.at.returns-then-file-le-CORES_AT c).Else-not-is_within) c.if-file-lt-UNCOUNTED_BYTES.false (measured (goal.at.returns-then-file-le-CORES_AT c).Else-count-file) c.if-file-le-CORES_AT.true))
 
 pub returns-then-not-is_within-2 : goal.returns-then-not-is_within-2
 returns-then-not-is_within-2 c = let wrong = sym (cores_tested (goal.at.returns-then-not-is_within-2 c).After-is_within-2) ∙ c.if-not-is_within-2.true in
-    ap reading_of (sym (bad_cores c.args.file.now c.if-file-lt1.false (versioned (goal.at.returns-then-not-is_within-2 c).Else-not-is_within) c.if-file-lt-UNCOUNTED_BYTES.false (measured (goal.at.returns-then-not-is_within-2 c).Else-count-file) c.if-file-le-CORES_AT.false wrong))
+    c.refuse-then-not-is_within-2.ensures ∙ ap reading_of (sym (bad_cores c.args.file.now c.if-file-lt1.false (versioned (goal.at.returns-then-not-is_within-2 c).Else-not-is_within) c.if-file-lt-UNCOUNTED_BYTES.false (measured (goal.at.returns-then-not-is_within-2 c).Else-count-file) c.if-file-le-CORES_AT.false wrong))
 
 pub returns : goal.returns
 returns c = let right = sym (cores_tested (goal.at.returns c).After-is_within-2) ∙ c.if-not-is_within-2.false in

@@ -13,12 +13,12 @@ tested c = c.is_shift.ensures ∙ ap (is_shift (layout_of c.args.l)) c.shift_in.
 
 pub returns-then-file-l : goal.returns-then-file-l
 returns-then-file-l c = let a = c.args in
-    ap reading_of (sym (no_shift (layout_of a.l) a.file.now c.if-file-l.true))
+    c.refuse.ensures ∙ ap reading_of (sym (no_shift (layout_of a.l) a.file.now c.if-file-l.true))
 
 pub returns-then-not-is_shift : goal.returns-then-not-is_shift
 returns-then-not-is_shift c = let a = c.args in
     let wrong = sym (tested (goal.at.returns-then-not-is_shift c).After-is_shift) ∙ c.if-not-is_shift.true in
-    ap reading_of (sym (bad_shift (layout_of a.l) a.file.now c.if-file-l.false wrong))
+    c.refuse-then-not-is_shift.ensures ∙ ap reading_of (sym (bad_shift (layout_of a.l) a.file.now c.if-file-l.false wrong))
 
 pub returns : goal.returns
 returns c = let a = c.args in

@@ -8,11 +8,11 @@ use Rattle.checking.proofs.PerJob.{per_job_none, per_job_more}
 use Rattle.results.proofs.responses.Goals as goal
 
 pub loop-i-init : goal.loop-i-init
-loop-i-init c = (omega arith, per_job_none _)
+loop-i-init c = per_job_none _
 
 pub loop-i-preserved : goal.loop-i-preserved
 loop-i-preserved c = let a = c.args in
     let v = c.loop-i in
     let f = response_of a.rows.now a.k a.finishes.now in
     let e = ap (λ r. get_or a.finishes.now v.i 0 - r) c.earliest_release.ensures in
-    (omega arith, (λ n. set (v.invariant.1 n) v.i (e n)) ∙ per_job_more v.i f (omega (arith, c.requires.1)))
+    (λ n. set (v.invariant n) v.i (e n)) ∙ per_job_more v.i f (omega (arith, c.requires.1))

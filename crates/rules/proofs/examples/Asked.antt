@@ -1,5 +1,5 @@
 -- What is answered of what was asked, and where files end. Assumes nothing.
-use Rattle.std.specs.Prelude.{◌≡◌, refl, [], ◌∷◌, map}
+use Rattle.std.specs.Prelude.{◌≡◌, refl, [], ◌∷◌, map, Ok, Err}
 use Rattle.format.specs.Bytes.{records}
 use Rattle.format.specs.Layout.{first, second, third}
 use Rattle.format.specs.Outcome.{ok, refused}
@@ -9,10 +9,9 @@ use Rattle.format.specs.Writing.{note_file}
 use Rattle.format.proofs.examples.Files.{resting, bell0, bell1, note, note0, phrase, phrase_p}
 use Rattle.rules.specs.internal.Answers.{end_of}
 use Rattle.rules.specs.internal.Asking.{note_asked, body_asked, body_end}
-use Rattle.rules.specs.declared.answers.Writing.TheVariants.{Written, Refused}
 
 -- what passes ends at 50, and refusal 12 at 36 ends nowhere
-pub answers : map (λ o. end_of {A = Phrase} o 50) (ok phrase_p ∷ refused 12 36 ∷ []) ≡ Written 50 ∷ Refused 12 36 ∷ []
+pub answers : map (λ o. end_of {A = Phrase} o 50) (ok phrase_p ∷ refused 12 36 ∷ []) ≡ Ok 50 ∷ Err (record { number = 12; place = 36 }) ∷ []
 answers = refl
 
 -- P ends at 50; a bell without notes at 15; with a note that lists two jobs at 31

@@ -1,5 +1,5 @@
 -- What the writer asks of a phrase, in the parts in which it asks it, and what it keeps in hand meanwhile. Assumes nothing.
-use Rattle.std.specs.Prelude.{ℕ, ◌+◌, ◌≡◌, Bool, true, false, List, leb, length, get_or}
+use Rattle.std.specs.Prelude.{ℕ, ◌+◌, ◌≡◌, Bool, false, List, leb, length, get_or}
 use Rattle.model.specs.Refusals.{wrong_note_length}
 use Rattle.format.specs.Bytes.{records}
 use Rattle.format.specs.Layout.{Layout, first, most_listed, note_count_at}
@@ -8,13 +8,9 @@ use Rattle.format.specs.Phrase.{Bell, Note, Phrase, find_sounding, is_some}
 use Rattle.format.specs.Rules.{note_rules, all_bells, all_notes}
 use Rattle.format.specs.Writing.{note_file}
 
-abbrev pub mark : Bool → ℕ
-mark true = 1
-mark false = 0
-
--- the bytes are marks of the keys that the bells sound for, 0 for every other key
-abbrev pub Sounded : List Bell → List ℕ → Type 0
-Sounded bells marks = (key : ℕ) → get_or marks key 0 ≡ mark (is_some (find_sounding key bells))
+-- each key has a mark whether the bells sound for it
+abbrev pub Sounded : List Bell → List Bool → Type 0
+Sounded bells marks = (key : ℕ) → get_or marks key false ≡ is_some (find_sounding key bells)
 
 -- what the rules ask of one note, at its place, with its own number, under a shift
 abbrev pub note_asked : ℕ → List Bell → ℕ → ℕ → Note → Outcome Note

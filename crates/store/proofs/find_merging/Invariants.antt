@@ -3,7 +3,7 @@ use Rattle.store.specs.internal.Half.{NoneMerges}
 use Rattle.store.proofs.find_merging.Given as goal
 
 abbrev pub invariant-loop-j : goal.invariant-loop-j
-invariant-loop-j l = (l.j ≤ l.n) × NoneMerges l.m l.k l.half l.new l.j
+invariant-loop-j l = (l.from ≤ l.n) × NoneMerges l.m l.k l.half l.new l.from
 
 abbrev pub decreases-loop-j : goal.decreases-loop-j
-decreases-loop-j l = l.n - l.j
+decreases-loop-j l = l.n - l.from

@@ -1,10 +1,7 @@
-use Prim.Native.Nat.{ℕ, ◌-◌, ◌≤◌, ◌<◌}
+use Prim.Native.Nat.{ℕ, ◌≤◌, ◌<◌}
 use mathlib.Core.Path.{◌≡◌}
 use Rattle.states.specs.internal.Slots.{set_of, slot_of}
 use Rattle.store.proofs.next_of_set.Given as goal
 
 abbrev pub invariant-loop-j : goal.invariant-loop-j
-invariant-loop-j l = (l.from ≤ l.j) × (l.j ≤ l.n) × ((i : ℕ) → i < l.j → l.from ≤ i → set_of (slot_of l.m l.k l.half i) ≡ l.set → ⊥)
-
-abbrev pub decreases-loop-j : goal.decreases-loop-j
-decreases-loop-j l = l.n - l.j
+invariant-loop-j l = (i : ℕ) → i < l.j → l.from ≤ i → set_of (slot_of l.m l.k l.half i) ≡ l.set → ⊥

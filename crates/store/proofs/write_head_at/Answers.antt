@@ -3,6 +3,7 @@ use mathlib.Core.Path.{ap, ◌∙◌}
 use native.Mathlib.Omega.{arith}
 use lib.ListN.{length}
 use Rattle.model.specs.Exploration.{state_words}
+use Rattle.states.specs.internal.Slots.{latest_at}
 use Rattle.links.specs.internal.Spare.{link_of, head_of}
 use Rattle.store.specs.internal.Index.{head_room}
 use Rattle.store.proofs.Storing.{slot_fits}
@@ -32,13 +33,13 @@ returns-then-b-used c = let m = c.args.m in
     let w = c.state_words-w.result in
     let e = c.state_words-w.ensures in
     let h = slot (goal.at.returns-then-b-used c).After-state_words-w in
-    let x = c.write_head in
+    let x = c.write_spare_word in
     let p = lent_slot m k b w e half h in
     let s = back_slot m k b w e half h x.new.s x.auto.s in
     let o = written_linked m k c.args.index half c.args.heads.now c.args.used b c.args.head c.requires.2 c.requires.5 (many (goal.at.returns-then-b-used c).Else-index-le-HEAD_ROOM) c.requires.6
     (back b w half x.new.s) (back_others m k b w e half h x.new.s x.auto.s) (omega arith)
-    (back_kept m k b w e half h x.new.s x.auto.s x.ensures.kept) (ap (link_of m k) s ∙ x.ensures.s_unchanged.0 ∙ ap (link_of m k) p)
-    (ap (head_of m k) s ∙ x.ensures.s_unchanged.1) in
+    (back_kept m k b w e half h x.new.s x.auto.s x.ensures.kept) (ap (link_of m k) s ∙ x.ensures.s_after.1 latest_at (λ e. omega (arith, e, c.requires.4 b (omega arith))) ∙ ap (link_of m k) p)
+    (ap (head_of m k) s ∙ x.ensures.s_after.0) in
     record { b_after = o.0; by_index = o.1 }
 
 pub returns : goal.returns

@@ -1,5 +1,5 @@
 -- States of a level linked bucket by bucket: c states, state j of bucket β j; bucket b has a head η b, and state j a link λ j. Assumes nothing.
-use Rattle.std.specs.Prelude.{ℕ, suc, ◌≤◌, ◌<◌, ◌≡◌, ◌⊎◌, cond, leb}
+use Rattle.std.specs.Prelude.{ℕ, suc, ◌≤◌, ◌<◌, ◌≡◌, cond, leb, Option, Some, None}
 
 -- r is the first state of bucket b from x on, or c
 pub record FirstFrom (c : ℕ) (β : ℕ → ℕ) (b x r : ℕ) : Type 0 where
@@ -21,6 +21,7 @@ pub record Chains (c : ℕ) (β η link : ℕ → ℕ) : Type 0 where
   pub below : (j : ℕ) → j < c → link j < c
   pub onward : (j : ℕ) → j < c → FirstFrom c β (β j) (suc j) (leads c j (link j))
 
--- last is the last state of bucket b before j, or c where there is none; and j is the first from it on, or c
-abbrev pub LastBefore : ℕ → (ℕ → ℕ) → ℕ → ℕ → ℕ → Type 0
-LastBefore c β b j last = ((last ≡ c) × FirstFrom c β b 0 j) ⊎ ((last < c) × ((β last ≡ b) × FirstFrom c β b (suc last) j))
+-- the last state of bucket b before j, or that there is none; and j is the first from it on, or c
+abbrev pub LastBefore : ℕ → (ℕ → ℕ) → ℕ → ℕ → Option ℕ → Type 0
+LastBefore c β b j (Some last) = (last < c) × (β last ≡ b) × FirstFrom c β b (suc last) j
+LastBefore c β b j None = FirstFrom c β b 0 j

@@ -1,22 +1,20 @@
 -- What a half of the table holds before and after a state is stored in it. Assumes nothing.
-use Rattle.std.specs.Prelude.{ℕ, ◌+◌, ◌*◌, ◌^◌, ◌≤◌, ◌<◌, ◌≡◌, true, false, List, length}
+use Rattle.std.specs.Prelude.{ℕ, ◌+◌, ◌*◌, ◌^◌, ◌≤◌, ◌<◌, ◌≡◌, true, false, List, length, Option, Some, None}
 use Rattle.model.specs.Jobs.{Job}
 use Rattle.model.specs.States.{Range, State, level}
 use Rattle.model.specs.Exploration.{mergeable, merge, Exploration, going, full, state_words}
 use Rattle.states.specs.internal.Slots.{set_of, state_of, slot_of, states_of, AllSound}
 use Rattle.links.specs.internal.Spare.{Kept}
-use Rattle.store.specs.declared.Stored.{Stored}
-use Rattle.store.specs.declared.Stored.TheVariants.{At, Full}
 
--- the level that the half holds once σ is stored, or that it is full
-abbrev pub level_of : ℕ → ℕ → State → List Range → ℕ → Stored → List ℕ → Exploration
-level_of m k σ seen c (At n) ws = going (states_of m k ws n) seen c
-level_of m k σ seen c Full ws = full (level σ)
+-- the level that the half holds once σ is stored, or that it has no room for it
+abbrev pub level_of : ℕ → ℕ → State → List Range → ℕ → Option ℕ → List ℕ → Exploration
+level_of m k σ seen c (Some n) ws = going (states_of m k ws n) seen c
+level_of m k σ seen c None ws = full (level σ)
 
 -- the states of the level are sound, and not too many
-abbrev pub SoundAt : List Job → ℕ → ℕ → ℕ → Stored → List ℕ → Type 0
-SoundAt js m k cap (At n) ws = (n ≤ cap) × AllSound js m k ws n
-SoundAt js m k cap Full ws = Unit {0}
+abbrev pub SoundAt : List Job → ℕ → ℕ → ℕ → Option ℕ → List ℕ → Type 0
+SoundAt js m k cap (Some n) ws = (n ≤ cap) × AllSound js m k ws n
+SoundAt js m k cap None ws = Unit {0}
 
 -- no job from k on is in the set of one of the first n states
 abbrev pub SetsFit : ℕ → ℕ → List ℕ → ℕ → Type 0
@@ -26,11 +24,15 @@ SetsFit m k ws n = (j : ℕ) → j < n → set_of (slot_of m k ws j) < 2 ^ k
 abbrev pub NoneMerges : ℕ → ℕ → List ℕ → List ℕ → ℕ → Type 0
 NoneMerges m k half new n = (j : ℕ) → j < n → mergeable (state_of m k (slot_of m k half j)) (state_of m k new) ≡ false
 
--- j is the first of n states that can merge with the new one, or n
+-- j is the first of n states that can merge with the new one
 pub record FirstMerging (m k : ℕ) (half : List ℕ) (n : ℕ) (new : List ℕ) (j : ℕ) : Type 0 where
-  pub inside : j ≤ n
+  pub inside : j < n
   pub none_before : NoneMerges m k half new j
-  pub merges : j < n → mergeable (state_of m k (slot_of m k half j)) (state_of m k new) ≡ true
+  pub merges : mergeable (state_of m k (slot_of m k half j)) (state_of m k new) ≡ true
+
+abbrev pub FoundMerging : ℕ → ℕ → List ℕ → ℕ → List ℕ → Option ℕ → Type 0
+FoundMerging m k half n new (Some j) = FirstMerging m k half n new j
+FoundMerging m k half n new None = NoneMerges m k half new n
 
 -- every slot but j has its words
 abbrev pub OthersKept : ℕ → ℕ → ℕ → List ℕ → List ℕ → Type 0
@@ -50,9 +52,13 @@ pub record MergedAt (m k : ℕ) (half new out : List ℕ) (j : ℕ) : Type 0 whe
   pub state : state_of m k (slot_of m k out j) ≡ merge (state_of m k (slot_of m k half j)) (state_of m k new)
   pub set : set_of (slot_of m k out j) ≡ set_of (slot_of m k half j)
 
--- r is the first of n states, from one of them on, that has the set, or n
+-- r is the first of n states, from one of them on, that has the set
 pub record NextOfSet (m k : ℕ) (ws : List ℕ) (n from set r : ℕ) : Type 0 where
   pub not_before : from ≤ r
-  pub inside : r ≤ n
+  pub inside : r < n
   pub none_between : (j : ℕ) → j < r → from ≤ j → set_of (slot_of m k ws j) ≡ set → ⊥
-  pub has_set : r < n → set_of (slot_of m k ws r) ≡ set
+  pub has_set : set_of (slot_of m k ws r) ≡ set
+
+abbrev pub FoundOfSet : ℕ → ℕ → List ℕ → ℕ → ℕ → ℕ → Option ℕ → Type 0
+FoundOfSet m k ws n from set (Some r) = NextOfSet m k ws n from set r
+FoundOfSet m k ws n from set None = (j : ℕ) → j < n → from ≤ j → set_of (slot_of m k ws j) ≡ set → ⊥

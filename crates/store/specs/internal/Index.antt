@@ -1,14 +1,12 @@
 -- The index of a level, by which stored states are found: those of one bucket are linked, by words of the states and of the half. Assumes nothing.
-use Rattle.std.specs.Prelude.{ℕ, ◌+◌, ◌*◌, ◌/◌, ◌%◌, ◌^◌, ◌≤◌, ◌<◌, min, ◌≡◌, true, cond, List, leb, ltb, get_or, length}
-use Rattle.model.specs.Exploration.{mergeable, state_words}
-use Rattle.states.specs.internal.Slots.{set_of, state_of, slot_of}
+use Rattle.std.specs.Prelude.{ℕ, ◌+◌, ◌*◌, ◌/◌, ◌%◌, ◌^◌, ◌≤◌, ◌<◌, min, ◌≡◌, cond, List, leb, ltb, get_or, length, Option, Some, None}
+use Rattle.model.specs.Exploration.{state_words}
+use Rattle.states.specs.internal.Slots.{set_of, slot_of}
 use Rattle.links.specs.internal.Spare.{spare_of, link_of, head_of}
-use Rattle.store.specs.internal.Half.{NoneMerges}
+use Rattle.store.specs.internal.Half.{FoundMerging}
 use Rattle.store.specs.internal.Chains.{Chains, LastBefore}
 use Rattle.store.specs.declared.Index.{Index}
 use Rattle.store.specs.declared.Search.{Search}
-use Rattle.store.specs.declared.Stored.{Stored}
-use Rattle.store.specs.declared.Stored.TheVariants.{At, Full}
 
 -- ---- what it is made of
 
@@ -65,20 +63,17 @@ pub record Indexed (m k : ℕ) (index : Index) (ws heads : List ℕ) (n : ℕ) :
   pub spared : Spared m k ws (used_of index n)
   pub linked : Linked m k index ws heads (used_of index n)
 
-abbrev pub IndexedAt : ℕ → ℕ → Index → Stored → List ℕ → List ℕ → Type 0
-IndexedAt m k index (At n) ws heads = Indexed m k index ws heads n
-IndexedAt m k index Full ws heads = Unit {0}
+abbrev pub IndexedAt : ℕ → ℕ → Index → Option ℕ → List ℕ → List ℕ → Type 0
+IndexedAt m k index (Some n) ws heads = Indexed m k index ws heads n
+IndexedAt m k index None ws heads = Unit {0}
 
 -- ---- what a search along the links of a bucket finds
 
--- the bucket is that of the new state; no linked state before the one found can merge with it, and that one can, or there is none and the last of the bucket
--- is known
+-- the bucket is that of the new state; the linked state found is the first that can merge with it, or there is none and the last of the bucket is known
 pub record Searched (m k : ℕ) (index : Index) (half : List ℕ) (used : ℕ) (new : List ℕ) (r : Search) : Type 0 where
-  pub inside : r.merging ≤ used
   pub bucket : r.bucket ≡ bucket_of index.buckets (set_of new)
-  pub none_before : NoneMerges m k half new r.merging
-  pub merges : r.merging < used → mergeable (state_of m k (slot_of m k half r.merging)) (state_of m k new) ≡ true
-  pub last : r.merging ≡ used → LastBefore used (bucket_at index.buckets m k half) r.bucket used r.last
+  pub merging : FoundMerging m k half used new r.merging
+  pub last : r.merging ≡ None → LastBefore used (bucket_at index.buckets m k half) r.bucket used r.last
 
 -- the spare words of slot j are as they were
 pub record SpareKept (m k : ℕ) (ws vs : List ℕ) (j : ℕ) : Type 0 where

@@ -12,14 +12,14 @@ rows : (c : After-header_word-n) → (c.header_word-n.result ≤ most_bells) × 
 rows c =
     (omega (arith, c.header_word-n.ensures, c.requires.0.1), rw c.tally-counts.ensures (few_tallied c.args.phrase.now c.args.k c.requires.0.0))
 
-pub put_bells-end-requires : goal.put_bells-end-requires
-put_bells-end-requires c = let r = rows (goal.at.put_bells-end-requires c).After-header_word-n in
+pub put-end-requires : goal.put-end-requires
+put-end-requires c = let r = rows (goal.at.put-end-requires c).After-header_word-n in
     (r.0, r.1, rw (c.tally-counts.ensures, c.header_word-n.ensures) (room_first _ _ c.requires.1))
 
-pub all_hold-requires : goal.all_hold-requires
-all_hold-requires c = rows (goal.at.all_hold-requires c).After-header_word-n
+pub hold-requires : goal.hold-requires
+hold-requires c = rows (goal.at.hold-requires c).After-header_word-n
 
 pub returns : goal.returns
-returns c = let bells = rw (c.tally-counts.ensures, c.header_word-n.ensures) at c.put_bells-end.ensures in
-    let last = rw (c.all_hold.ensures, c.tally-counts.ensures, c.header_word-n.ensures) at c.put_last.ensures in
+returns c = let bells = rw (c.tally-counts.ensures, c.header_word-n.ensures) at c.put-end.ensures in
+    let last = rw (c.hold.ensures, c.tally-counts.ensures, c.header_word-n.ensures) at c.put_last.ensures in
     more (within c.requires.1) bells last

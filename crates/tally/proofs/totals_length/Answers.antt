@@ -11,8 +11,8 @@ rows : (c : After-header_word-n) → (c.header_word-n.result ≤ most_bells) × 
 rows c =
     (omega (arith, c.header_word-n.ensures, c.requires.1), rw c.tally-counts.ensures (few_tallied c.args.phrase.now c.args.k c.requires.0))
 
-pub bells_length-requires : goal.bells_length-requires
-bells_length-requires c = rows (goal.at.bells_length-requires c).After-header_word-n
+pub length-requires : goal.length-requires
+length-requires c = rows (goal.at.length-requires c).After-header_word-n
 
-pub all_hold-requires : goal.all_hold-requires
-all_hold-requires c = rows (goal.at.all_hold-requires c).After-header_word-n
+pub hold-requires : goal.hold-requires
+hold-requires c = rows (goal.at.hold-requires c).After-header_word-n

@@ -1,29 +1,9 @@
--- `put_bytes` meets its contract: the bytes so far are those of the text.
-use Prim.Native.Nat.{ℕ, ◌+◌}
-use mathlib.Core.Path.{◌≡◌, ap, ◌∙◌}
-use mathlib.Core.List.{append_assoc}
-use native.Mathlib.Numerals.{add-one}
+-- `put_bytes` meets its contract: the part that is lent comes back as the text.
+use mathlib.Core.Path.{refl}
 use native.Mathlib.Omega.{arith}
-use lib.ListN.{length, take, drop, length-set}
-use lib.Seq.{paste-suc, take-length}
-use Rattle.words.specs.internal.Placed.{placed}
+use Rattle.words.proofs.Placing.{put_placed}
 use Rattle.text.proofs.put_bytes.Goals as goal
 
-pub loop-i-preserved : goal.loop-i-preserved
-loop-i-preserved c = let l = c.loop-i in
-    let a = c.args in (
-      omega arith,
-      simp length-set l.invariant.1,
-      rw (l.invariant.2, add-one) (paste-suc a.buffer.now a.at a.s.now l.i 0 (omega arith) (omega arith)),
-    )
-
 pub returns : goal.returns
-unfolding placed
 returns c = let a = c.args in
-    let p = a.buffer.now in
-    let s = a.s.now in
-    let e : c.loop-i.i ≡ length s = omega arith in
-    record {
-      ended = ap (λ (n : ℕ). a.at + n) e;
-      holds = c.loop-i.invariant.2 ∙ rw (e, take-length) (append_assoc (take a.at p) s (drop (a.at + length s) p));
-    }
+    record { ended = refl; holds = rw c.copy_from_slice.ensures.after (put_placed a.buffer.now a.at _ a.s.now (omega arith)) }

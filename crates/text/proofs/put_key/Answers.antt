@@ -8,7 +8,7 @@ use Rattle.text.proofs.Writing.{more}
 use Rattle.text.proofs.put_key.Goals as goal
 
 pub put_bytes-end-requires : goal.put_bytes-end-requires
-put_bytes-end-requires c = record { fits = omega (arith, ap length c.name_of-name.ensures.1, key_parts c.args.key, c.requires) }
+put_bytes-end-requires c = record { fits = omega (arith, ap length c.name_of.ensures, key_parts c.args.key, c.requires) }
 
 pub put_decimal-requires : goal.put_decimal-requires
 put_decimal-requires c =
@@ -16,7 +16,7 @@ put_decimal-requires c =
       fits = omega (
         arith,
         c.requires,
-        ap length c.name_of-name.ensures.1,
+        ap length c.name_of.ensures,
         key_parts c.args.key,
         c.put_bytes-end.ensures.ended,
         c.put_bytes-end.auto.buffer,
@@ -26,4 +26,4 @@ put_decimal-requires c =
 pub returns : goal.returns
 unfolding key_text
 returns c =
-    rw (← c.name_of-name.ensures.1) (more (omega (arith, c.requires.1.fits)) c.put_bytes-end.ensures c.put_decimal.ensures)
+    rw (← c.name_of.ensures) (more (omega (arith, c.requires.1.fits)) c.put_bytes-end.ensures c.put_decimal.ensures)

@@ -1,9 +1,8 @@
 -- The code's answers, by the definitions' outcomes. Assumes nothing.
-use Rattle.std.specs.Prelude.{ℕ, List, length}
+use Rattle.std.specs.Prelude.{ℕ, List, length, Result, Ok, Err}
+use Rattle.model.specs.declared.refusals.Refusal.{Refusal}
 use Rattle.format.specs.Outcome.{Outcome, ok, refused}
-use Rattle.rules.specs.declared.answers.Writing.{Writing}
-use Rattle.rules.specs.declared.answers.Writing.TheVariants.{Written, Refused}
 
-abbrev pub writing_of : Outcome (List ℕ) → Writing
-writing_of (ok s) = Written (length s)
-writing_of (refused n at) = Refused n at
+abbrev pub writing_of : Outcome (List ℕ) → Result ℕ Refusal
+writing_of (ok s) = Ok (length s)
+writing_of (refused n at) = Err (record { number = n; place = at })

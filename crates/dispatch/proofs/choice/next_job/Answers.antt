@@ -11,16 +11,14 @@ key_is : (c : After-start_key-key)
     → let a = c.args in
     c.start_key-key.result ≡ key_of (jobs_of_rows a.rows.now a.k) a.wakes.now a.from c.loop-j.j
 unfolding key_of
-key_is c = c.start_key-key.ensures ∙ ap₂ start_key c.larger.ensures c.priority.ensures
+key_is c = c.start_key-key.ensures ∙ ap₂ start_key c.max.ensures c.priority.ensures
 
 pub loop-j-preserved : goal.loop-j-preserved
 loop-j-preserved c = let i = c.loop-j in
     let a = c.args in
     let key = key_of (jobs_of_rows a.rows.now a.k) a.wakes.now a.from in
-    let is = key_is (goal.at.loop-j-preserved c).After-start_key-key in (
-      omega (arith, c.loop-j-test.true),
-      elim c.if-key-least.branch [
-        | then-key-least w ↦ rw (w.next-is, w.least-is, is) (seen_lower key a.k i.j i.next i.least i.invariant.1 (omega (arith, is, w.if-key-least.true)))
-        | else-key-least w ↦ rw (w.next-is, w.least-is) (seen_higher key a.k i.j i.next i.least i.invariant.1 (omega (arith, is, w.if-key-least.false)))
-      ],
-    )
+    let is = key_is (goal.at.loop-j-preserved c).After-start_key-key in
+    elim c.if-key-least.branch [
+      | then-key-least w ↦ rw (w.next-is, w.least-is, is) (seen_lower key i.j i.next i.least i.invariant (omega (arith, is, w.if-key-least.true)))
+      | else-key-least w ↦ rw (w.next-is, w.least-is) (seen_higher key i.j i.next i.least i.invariant (omega (arith, is, w.if-key-least.false)))
+    ]

@@ -1,12 +1,8 @@
 -- The loop's invariant: of the jobs looked at, the one kept has the least key.
-use Prim.Native.Nat.{◌-◌, ◌≤◌}
 use Rattle.jobs.specs.internal.JobRow.{jobs_of_rows}
 use Rattle.dispatch.specs.internal.Choice.{key_of}
 use Rattle.dispatch.proofs.Choosing.{Seen}
 use Rattle.dispatch.proofs.choice.next_job.Given as goal
 
 abbrev pub invariant-loop-j : goal.invariant-loop-j
-invariant-loop-j l = (l.j ≤ l.k) × Seen (key_of (jobs_of_rows l.rows l.k) l.wakes l.from) l.k l.j l.next l.least
-
-abbrev pub decreases-loop-j : goal.decreases-loop-j
-decreases-loop-j l = l.k - l.j
+invariant-loop-j l = Seen (key_of (jobs_of_rows l.rows l.k) l.wakes l.from) l.j l.next l.least

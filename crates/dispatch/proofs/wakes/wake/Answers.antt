@@ -14,7 +14,7 @@ use Rattle.dispatch.proofs.wakes.wake.Goals.{After-loop-l, Else-rest-eq0}
 
 -- all were looked at
 through : (d : After-loop-l) → length (predecessors (jobs_of_rows d.args.rows.now d.args.k) d.args.j) ≤ d.loop-l.l
-through d = omega (arith, d.loop-l.invariant.0, d.loop-l-test.false)
+through d = omega (arith, d.loop-l.invariant.0)
 
 -- the bell rests after the last of them
 rests : (c : Else-rest-eq0) → last_rest (jobs_of_rows c.args.rows.now c.args.k) c.args.j ≡ 0 → ⊥
@@ -22,20 +22,19 @@ rests c e = c.if-rest-eq0.false (c.last_rest-rest.ensures ∙ e)
 
 pub returns-then-finish-eq0 : goal.returns-then-finish-eq0
 returns-then-finish-eq0 c = let i = c.loop-l in
-    wake_waits (jobs_of_rows c.args.rows.now c.args.k) (scenario_in c.args.playing.now) c.args.finishes.now c.args.j i.l i.from i.invariant.2 c.predecessor-w.result
-    (omega (arith, i.invariant.0, c.loop-l-test.true)) c.predecessor-w.ensures.0 c.if-finish-eq0.true
+    wake_waits (jobs_of_rows c.args.rows.now c.args.k) (scenario_in c.args.playing.now) c.args.finishes.now c.args.j i.l i.from i.invariant.1 c.predecessor-w.result
+    (omega (arith, i.invariant.0)) c.predecessor-w.ensures.0 c.if-finish-eq0.true
 
 pub loop-l-preserved : goal.loop-l-preserved
 loop-l-preserved c = let i = c.loop-l in (
   i.invariant.0,
-  omega (arith, c.loop-l-test.true),
-  rw c.larger-from.ensures (looked_next c.args.finishes.now (predecessors (jobs_of_rows c.args.rows.now c.args.k) c.args.j) ((scenario_in c.args.playing.now).release c.args.j) i.l i.from i.invariant.2
-      c.predecessor-w.result (omega (arith, i.invariant.0, c.loop-l-test.true)) c.predecessor-w.ensures.0 c.if-finish-eq0.false),
+  rw c.max-from.ensures (looked_next c.args.finishes.now (predecessors (jobs_of_rows c.args.rows.now c.args.k) c.args.j) ((scenario_in c.args.playing.now).release c.args.j) i.l i.from i.invariant.1
+      c.predecessor-w.result (omega (arith, i.invariant.0)) c.predecessor-w.ensures.0 c.if-finish-eq0.false),
 )
 
 pub returns-then-rest-eq0 : goal.returns-then-rest-eq0
 returns-then-rest-eq0 c = let i = c.loop-l in
-    wake_unrested (jobs_of_rows c.args.rows.now c.args.k) (scenario_in c.args.playing.now) c.args.finishes.now c.args.j i.l i.from i.invariant.2 (through (goal.at.returns-then-rest-eq0 c).After-loop-l) (sym c.last_rest-rest.ensures ∙ c.if-rest-eq0.true)
+    wake_unrested (jobs_of_rows c.args.rows.now c.args.k) (scenario_in c.args.playing.now) c.args.finishes.now c.args.j i.l i.from i.invariant.1 (through (goal.at.returns-then-rest-eq0 c).After-loop-l) (sym c.last_rest-rest.ensures ∙ c.if-rest-eq0.true)
 
 pub overflow_sub-count : goal.overflow_sub-count
 overflow_sub-count c = omega (arith, c.loop-l.invariant.0, has_last (jobs_of_rows c.args.rows.now c.args.k) c.args.j (rests c))
@@ -56,6 +55,6 @@ overflow_add-finishes c = let inside : c.args.j < length (jobs_of_rows c.args.ro
 
 pub returns : goal.returns
 returns c = let i = c.loop-l in
-    c.larger.ensures
-    ∙ wake_rested (jobs_of_rows c.args.rows.now c.args.k) (scenario_in c.args.playing.now) c.args.finishes.now c.args.j i.l i.from i.invariant.2 (through (goal.at.returns c).After-loop-l) _ c.predecessor-last.result c.last_rest-rest.result
+    c.max.ensures
+    ∙ wake_rested (jobs_of_rows c.args.rows.now c.args.k) (scenario_in c.args.playing.now) c.args.finishes.now c.args.j i.l i.from i.invariant.1 (through (goal.at.returns c).After-loop-l) _ c.predecessor-last.result c.last_rest-rest.result
     i.invariant.0 c.predecessor-last.ensures.0 c.last_rest-rest.ensures c.if-rest-eq0.false

@@ -1,5 +1,4 @@
 -- The loop's invariant: the predecessors looked at so far have started, and with what is left their latest finish time is that of all.
-use Prim.Native.Nat.{◌-◌, ◌≤◌}
 use mathlib.Core.Path.{◌≡◌}
 use lib.ListN.{length}
 use Rattle.model.specs.Jobs.{predecessors}
@@ -9,8 +8,5 @@ use Rattle.dispatch.proofs.Waking.{LookedAt}
 use Rattle.dispatch.proofs.wakes.wake.Given as goal
 
 abbrev pub invariant-loop-l : goal.invariant-loop-l
-invariant-loop-l l = (l.count ≡ length (predecessors (jobs_of_rows l.rows l.k) l.j)) × (l.l ≤ l.count)
+invariant-loop-l l = (l.count ≡ length (predecessors (jobs_of_rows l.rows l.k) l.j))
     × LookedAt l.finishes (predecessors (jobs_of_rows l.rows l.k) l.j) ((scenario_in l.playing).release l.j) l.l l.from
-
-abbrev pub decreases-loop-l : goal.decreases-loop-l
-decreases-loop-l l = l.count - l.l

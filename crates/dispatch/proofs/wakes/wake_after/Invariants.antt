@@ -1,6 +1,3 @@
-use Prim.Native.Nat.{◌-◌, ◌≤◌, ◌<◌}
-use mathlib.Core.Path.{◌≡◌}
-use lib.ListN.{length}
 use Rattle.jobs.specs.internal.JobRow.{jobs_of_rows}
 use Rattle.playing.specs.Playing.{scenario_in}
 use Rattle.dispatch.specs.internal.Wakes.{woken_by}
@@ -8,7 +5,4 @@ use Rattle.dispatch.proofs.Waking.{WokenUpTo}
 use Rattle.dispatch.proofs.wakes.wake_after.Given as goal
 
 abbrev pub invariant-loop-j : goal.invariant-loop-j
-invariant-loop-j l = (length l.wakes ≡ length l.initial.wakes) × (l.i < l.j) × (l.j ≤ l.k) × WokenUpTo (woken_by (jobs_of_rows l.rows l.k) (scenario_in l.playing) l.finishes l.initial.wakes l.i) l.initial.wakes l.j l.wakes
-
-abbrev pub decreases-loop-j : goal.decreases-loop-j
-decreases-loop-j l = l.k - l.j
+invariant-loop-j l = WokenUpTo (woken_by (jobs_of_rows l.rows l.k) (scenario_in l.playing) l.finishes l.initial.wakes l.i) l.initial.wakes l.j l.wakes

@@ -1,6 +1,7 @@
 use Prim.Native.Nat.{◌+◌}
 use mathlib.Core.Path.{◌≡◌, sym, ap, ◌∙◌}
 use mathlib.Core.List.{[], ◌∷◌}
+use Rattle.fields.proofs.Sizes.{sized}
 use Rattle.words.specs.internal.Placed.{placed}
 use Rattle.format.specs.Bytes.{digits}
 use Rattle.format.specs.Layout.{bell_widths}
@@ -20,7 +21,7 @@ rested c =
     let a = c.args in
     let t = c.put_16-2.new.part in
     elim c.if-l-ne0.branch [
-      | then-l-ne0 w ↦ w.part-is ∙ w.put_16-then-l-ne0.ensures ∙ some_put t rest_at (bell_of_row c.args.row.now).rest a.l.rest 2 (two a.l c.requires.0 w.if-l-ne0.true)
+      | then-l-ne0 w ↦ w.part-is ∙ w.put_16-then-l-ne0.ensures ∙ some_put t rest_at (bell_of_row c.args.row.now).rest a.l.rest 2 (two a.l (sized c.args.l) w.if-l-ne0.true)
       | else-l-ne0 w ↦ w.part-is ∙ none_put t rest_at (bell_of_row c.args.row.now).rest a.l.rest w.if-l-ne0.false
     ]
 
@@ -39,4 +40,4 @@ returns c = let a = c.args in
     c.put_8-3.ensures
     ∙ ap (λ u. placed u (rest_at + a.l.rest) (digits 1 b.priority))
     (rested (goal.at.returns c).Joined-l-ne0 ∙ ap (λ u. placed u rest_at (digits a.l.rest b.rest)) four) in
-    e ∙ puts_whole ws (bell_fields b) c.requires.3 s (c.requires.2 ∙ sym (bell_total_holds (layout_of a.l)))
+    e ∙ puts_whole ws (bell_fields b) c.requires.2 s (c.requires.1 ∙ sym (bell_total_holds (layout_of a.l)))

@@ -2,6 +2,7 @@ use Prim.Native.Nat.{◌-◌}
 use mathlib.Core.Path.{◌≡◌, sym, ap, ◌∙◌}
 use mathlib.Core.List.{[], ◌∷◌}
 use native.Mathlib.Omega.{arith}
+use Rattle.fields.proofs.Sizes.{sized}
 use Rattle.words.specs.internal.Placed.{placed}
 use Rattle.format.specs.Bytes.{digits}
 use Rattle.format.specs.Layout.{uncounted_bytes, byte_count_at, cores_at, shift_at, head_widths}
@@ -20,7 +21,7 @@ shifted c =
     let a = c.args in
     let t = c.put_8-2.new.part in
     elim c.if-l-ne0.branch [
-      | then-l-ne0 w ↦ w.part-is ∙ w.put_8-then-l-ne0.ensures ∙ some_put t shift_at a.shift a.l.shift 1 (one a.l c.requires.0 w.if-l-ne0.true)
+      | then-l-ne0 w ↦ w.part-is ∙ w.put_8-then-l-ne0.ensures ∙ some_put t shift_at a.shift a.l.shift 1 (one a.l (sized c.args.l) w.if-l-ne0.true)
       | else-l-ne0 w ↦ w.part-is ∙ none_put t shift_at a.shift a.l.shift w.if-l-ne0.false
     ]
 
@@ -36,5 +37,5 @@ returns c = let a = c.args in
     let four : c.if-l-ne0.part ≡ _ = shifted (goal.at.returns c).Joined-l-ne0 ∙ ap (λ u. placed u shift_at (digits a.l.shift a.shift)) three in
     let e : c.put_8-3.new.part ≡ puts t 0 ws vs =
     c.put_8-3.ensures ∙ (λ i. placed (four i) (c.bell_count_at.ensures i) (digits 1 a.bells)) in
-    let f : FieldsFit ws vs = (c.requires.2, (omega arith, (c.requires.4, (c.requires.5, (c.requires.6, tt))))) in
-    e ∙ puts_whole ws vs f t (c.requires.1 ∙ sym (head_total (layout_of a.l)))
+    let f : FieldsFit ws vs = (c.requires.1, (omega arith, (c.requires.3, (c.requires.4, (c.requires.5, tt))))) in
+    e ∙ puts_whole ws vs f t (c.requires.0 ∙ sym (head_total (layout_of a.l)))

@@ -1,4 +1,4 @@
-use Prim.Native.Nat.{◌+◌, ◌-◌, ◌≤◌}
+use Prim.Native.Nat.{◌+◌}
 use mathlib.Core.Path.{◌≡◌}
 use lib.ListN.{length, take, replicate}
 use Rattle.words.specs.internal.Placed.{placed}
@@ -8,9 +8,5 @@ use Rattle.encoding.proofs.Listed.{rest}
 use Rattle.encoding.proofs.notes.put_listed.Given as goal
 
 abbrev pub invariant-loop-i : goal.invariant-loop-i
-invariant-loop-i l = (l.i ≤ l.count)
-    × (length l.part ≡ length l.initial.part)
+invariant-loop-i l = (length l.part ≡ length l.initial.part)
     × (rest l.jobs l.count (1 + note_bytes) l.part l.i ≡ placed l.initial.part (1 + note_bytes) (fields_file (replicate l.count 1) (take l.count l.jobs)))
-
-abbrev pub decreases-loop-i : goal.decreases-loop-i
-decreases-loop-i l = l.count - l.i

@@ -3,7 +3,7 @@ use mathlib.Core.List.{[], ◌∷◌}
 use native.Mathlib.Omega.{arith}
 use Rattle.words.specs.internal.Placed.{placed}
 use Rattle.words.proofs.Placing.{sets_placed}
-use Rattle.encoding.proofs.Halves.{digits_one}
+use Rattle.encoding.proofs.ByBytes.{digits_one}
 use Rattle.encoding.proofs.numbers.put_8.Goals as goal
 
 pub returns : goal.returns

@@ -18,5 +18,5 @@ returns c = let wrote = c.byte in
     let rest = c.rest_in in
     let ws = wrote.result ∷ transposed.result ∷ least.result ∷ most.result ∷ priority.result ∷ rest.result ∷ c.args.key ∷ [] in
     let e : ws ≡ bell_row (bell_in (layout_of c.args.l) c.args.part.now) =
-    λ i. wrote.ensures.0 i ∷ transposed.ensures.0 i ∷ least.ensures.0 i ∷ most.ensures.0 i ∷ priority.ensures i ∷ rest.ensures i ∷ c.requires.2 i ∷ [] in
-    sets_placed c.args.row.now 0 ws (omega (arith, c.requires.3)) ∙ placed_whole c.args.row.now ws c.requires.3 ∙ e
+    λ i. wrote.ensures.0 i ∷ transposed.ensures.0 i ∷ least.ensures.0 i ∷ most.ensures.0 i ∷ priority.ensures i ∷ rest.ensures i ∷ c.requires.1 i ∷ [] in
+    sets_placed c.args.row.now 0 ws (omega (arith, c.requires.2)) ∙ placed_whole c.args.row.now ws c.requires.2 ∙ e

@@ -1,45 +1,45 @@
--- The rest of the listed jobs, from `low` on, gives the answer.
-use mathlib.Core.Path.{◌≡◌, refl, sym, ap, ◌∙◌}
-use Prim.Native.Nat.{◌+◌, ◌-◌}
+-- The rest of the jobs, from `low` on, gives the answer.
+use mathlib.Core.Path.{◌≡◌, sym, ap, subst, ◌∙◌}
+use Prim.Native.Nat.{ℕ, ◌+◌}
+use mathlib.Core.List.{List}
 use native.Mathlib.Omega.{arith}
-use lib.ListN.{drop}
+use lib.ListN.{drop, get_or}
 use Rattle.format.specs.Rules.{rises}
 use Rattle.format.proofs.Rising.{low_one, high_one, next_one, last_one}
-use Rattle.fields.proofs.ListedJobs.{listed_at, listed_in, sized, listed_count_holds, job_less, job_at_holds}
+use Rattle.fields.specs.internal.Numbers.{AreNumbers}
 use Rattle.fields.proofs.notes.do_rise.Goals as goal
+use Rattle.fields.proofs.notes.do_rise.Goals.{After-into-job}
+use Rattle.fields.proofs.notes.do_rise.Given.{Over}
 
-pub loop-at-init : goal.loop-at-init
-loop-at-init c = (omega arith, omega (arith, c.byte.ensures.0, (sized c.args.part.now c.requires).0), ap (λ b. b + 1) c.byte.ensures.0, refl)
+-- the number of the job at the place
+read : (g : Over) (c : After-into-job g) (numbers : List ℕ) → AreNumbers g.T.Into.converts c.args.jobs.now numbers
+    → c.into-job.result ≡ get_or numbers c.loop-listed.listed-index 0
+read g c numbers x =
+    let e = subst (λ v. g.T.Into.converts v c.into-job.result) c.listed-item.is c.into-job.ensures in
+    x.each c.loop-listed.listed-index c.into-job.result c.listed-item.result c.loop-listed-test.true e
 
 pub returns-then-job-low : goal.returns-then-job-low
-returns-then-job-low c = let v = c.loop-at in
-    let p = c.args.part.now in
-    let less = job_less p c.requires v.at v.invariant.0 (omega arith) in
-    let job = job_at_holds p c.requires v.at v.invariant.0 (omega arith) in
-    sym (low_one (listed_in p) (v.at - listed_at) less c.args.own v.low (omega (arith, job))) ∙ v.invariant.3
+returns-then-job-low g c = λ numbers x.
+    let v = c.loop-listed in
+    let job = read g (goal.at.returns-then-job-low g c).After-into-job numbers x in
+    sym (low_one numbers v.listed-index (omega (arith, x.many)) c.args.own v.low (omega (arith, job))) ∙ v.invariant numbers x
 
 pub returns-then-own-job : goal.returns-then-own-job
-returns-then-own-job c = let v = c.loop-at in
-    let p = c.args.part.now in
-    let less = job_less p c.requires v.at v.invariant.0 (omega arith) in
-    let job = job_at_holds p c.requires v.at v.invariant.0 (omega arith) in
-    sym (high_one (listed_in p) (v.at - listed_at) less c.args.own v.low (omega (arith, job)) (omega (arith, job))) ∙ v.invariant.3
+returns-then-own-job g c = λ numbers x.
+    let v = c.loop-listed in
+    let job = read g (goal.at.returns-then-own-job g c).After-into-job numbers x in
+    sym (high_one numbers v.listed-index (omega (arith, x.many)) c.args.own v.low (omega (arith, job)) (omega (arith, job)))
+    ∙ v.invariant numbers x
 
-pub loop-at-preserved : goal.loop-at-preserved
-loop-at-preserved c = let v = c.loop-at in
-    let p = c.args.part.now in
-    let less = job_less p c.requires v.at v.invariant.0 (omega arith) in
-    let job = job_at_holds p c.requires v.at v.invariant.0 (omega arith) in
-    let next : v.at + 1 - listed_at ≡ v.at - listed_at + 1 = omega arith in
-    let read = c.byte-job.ensures.0 ∙ sym job in (
-      omega arith,
-      omega arith,
-      v.invariant.2,
-      (λ i. rises c.args.own (read i + 1) (drop (next i) (listed_in p)))
-          ∙ sym (next_one (listed_in p) (v.at - listed_at) less c.args.own v.low (omega (arith, job)) (omega (arith, job))) ∙ v.invariant.3,
-    )
+pub loop-listed-preserved : goal.loop-listed-preserved
+loop-listed-preserved g c = λ numbers x.
+    let v = c.loop-listed in
+    let job = read g (goal.at.loop-listed-preserved g c).After-into-job numbers x in
+    ap (λ n. rises c.args.own (n + 1) (drop (v.listed-index + 1) numbers)) job
+    ∙ sym (next_one numbers v.listed-index (omega (arith, x.many)) c.args.own v.low (omega (arith, job)) (omega (arith, job)))
+    ∙ v.invariant numbers x
 
 pub returns : goal.returns
-returns c = let p = c.args.part.now in
-    let v = c.loop-at in
-    sym (last_one (listed_in p) (v.at - listed_at) c.args.own v.low (omega (arith, listed_count_holds p c.requires))) ∙ v.invariant.3
+returns g c = λ numbers x.
+    let v = c.loop-listed in
+    sym (last_one numbers v.listed-index c.args.own v.low (omega (arith, x.many))) ∙ v.invariant numbers x

@@ -5,20 +5,12 @@ use Rattle.lines.proofs.lines.put_labelled.Goals as goal
 
 pub put_bytes-end-requires : goal.put_bytes-end-requires
 unfolding labelled
-put_bytes-end-requires c = let r0 = c.requires in
-    room_first _ _ r0
+put_bytes-end-requires c = room_first _ _ c.requires
 
 pub put_decimal-requires : goal.put_decimal-requires
 unfolding labelled
-put_decimal-requires c = let r0 = c.requires in
-    let w0 = c.put_bytes-end.ensures in
-    let r1 = room_rest _ r0 w0 in
-    r1
+put_decimal-requires c = room_rest _ c.requires c.put_bytes-end.ensures
 
 pub returns : goal.returns
 unfolding labelled
-returns c = let r0 = c.requires in
-    let w0 = c.put_bytes-end.ensures in
-    let r1 = room_rest _ r0 w0 in
-    let w1 = c.put_decimal.ensures in
-    more (within r0) w0 w1
+returns c = more (within c.requires) c.put_bytes-end.ensures c.put_decimal.ensures

@@ -5,20 +5,12 @@ use Rattle.lines.proofs.lines.put_ranged.Goals as goal
 
 pub put_labelled-end-requires : goal.put_labelled-end-requires
 unfolding ranged
-put_labelled-end-requires c = let r0 = c.requires in
-    room_first _ _ r0
+put_labelled-end-requires c = room_first _ _ c.requires
 
 pub put_labelled-requires : goal.put_labelled-requires
 unfolding ranged
-put_labelled-requires c = let r0 = c.requires in
-    let w0 = c.put_labelled-end.ensures in
-    let r1 = room_rest _ r0 w0 in
-    r1
+put_labelled-requires c = room_rest _ c.requires c.put_labelled-end.ensures
 
 pub returns : goal.returns
 unfolding ranged
-returns c = let r0 = c.requires in
-    let w0 = c.put_labelled-end.ensures in
-    let r1 = room_rest _ r0 w0 in
-    let w1 = c.put_labelled.ensures in
-    more (within r0) w0 w1
+returns c = more (within c.requires) c.put_labelled-end.ensures c.put_labelled.ensures

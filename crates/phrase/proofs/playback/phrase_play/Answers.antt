@@ -11,14 +11,14 @@ use Rattle.playing.proofs.Outcomes.{was_admitted, was_refused}
 use Rattle.phrase.specs.Host.{places}
 use Rattle.phrase.proofs.Played.{unplayed_apart, promised}
 use Rattle.phrase.proofs.playback.phrase_play.Goals as goal
-use Rattle.phrase.proofs.playback.phrase_play.Goals.{In-Refused, In-Admitted}
+use Rattle.phrase.proofs.playback.phrase_play.Goals.{In-Err, In-Ok}
 
 -- the times
-was_played : (c : In-Admitted) → (t : Times) × (played_of (reading c.args.file.now) c.args.playing.now ≡ ok t)
-was_played c = was_admitted (played_of (reading c.args.file.now) c.args.playing.now) (sym c.play.ensures.answer ∙ c.in-Admitted.is)
+was_played : (c : In-Ok) → (t : Times) × (played_of (reading c.args.file.now) c.args.playing.now ≡ ok t)
+was_played c = was_admitted (played_of (reading c.args.file.now) c.args.playing.now) (sym c.play.ensures.answer ∙ c.in-Ok.is)
 
 -- what is promised of them
-kept : (c : In-Admitted)
+kept : (c : In-Ok)
     → RanAs (reading c.args.file.now) c.args.playing.now c.play.new.starts c.play.new.finishes
     × ((words : ℕ) → Inside (reading c.args.file.now) (verdict (reading c.args.file.now) words) c.play.new.finishes)
 kept c =
@@ -27,23 +27,23 @@ kept c =
     (c.play.ensures.finishes ∙ ap finishes_of x.1)
 
 -- the refusal
-was_not : (c : In-Refused) → played_of (reading c.args.file.now) c.args.playing.now ≡ refused c.in-Refused.number c.in-Refused.place
-was_not c = was_refused (played_of (reading c.args.file.now) c.args.playing.now) _ _ (sym c.play.ensures.answer ∙ c.in-Refused.is)
+was_not : (c : In-Err) → played_of (reading c.args.file.now) c.args.playing.now ≡ refused c.in-Err.refusal.number c.in-Err.refusal.place
+was_not c = was_refused (played_of (reading c.args.file.now) c.args.playing.now) _ (sym c.play.ensures.answer ∙ c.in-Err.is)
 
-apart : (c : In-Refused) → (1 ≤ c.in-Refused.number) × (c.in-Refused.place < places)
+apart : (c : In-Err) → (1 ≤ c.in-Err.refusal.number) × (c.in-Err.refusal.place < places)
 apart c = unplayed_apart c.args.file.now (λ i b. (c.type_inv.file i).fits) c.args.playing.now _ _ (was_not c)
 
-pub refusal-requires : goal.refusal-requires
-refusal-requires c = (apart c).1
+pub number_at-requires : goal.number_at-requires
+number_at-requires c = omega (arith, (apart c).1)
 
-pub returns-in-Admitted-clause-run : goal.returns-in-Admitted-clause-run
-returns-in-Admitted-clause-run c = λ z. (kept c).0
+pub returns-in-Ok-clause-run : goal.returns-in-Ok-clause-run
+returns-in-Ok-clause-run c = λ z. (kept c).0
 
-pub returns-in-Admitted-clause-inside : goal.returns-in-Admitted-clause-inside
-returns-in-Admitted-clause-inside c = λ z. (kept c).1
+pub returns-in-Ok-clause-inside : goal.returns-in-Ok-clause-inside
+returns-in-Ok-clause-inside c = λ z. (kept c).1
 
-pub returns-in-Refused-clause-run : goal.returns-in-Refused-clause-run
-returns-in-Refused-clause-run c = λ z. absurd (omega (arith, (apart (goal.at.returns-in-Refused-clause-run c).In-Refused).0, c.refusal.ensures, z))
+pub returns-in-Err-clause-run : goal.returns-in-Err-clause-run
+returns-in-Err-clause-run c = λ z. absurd (omega (arith, (apart (goal.at.returns-in-Err-clause-run c).In-Err).0, c.number_at.ensures, z))
 
-pub returns-in-Refused-clause-inside : goal.returns-in-Refused-clause-inside
-returns-in-Refused-clause-inside c = λ z. absurd (omega (arith, (apart (goal.at.returns-in-Refused-clause-inside c).In-Refused).0, c.refusal.ensures, z))
+pub returns-in-Err-clause-inside : goal.returns-in-Err-clause-inside
+returns-in-Err-clause-inside c = λ z. absurd (omega (arith, (apart (goal.at.returns-in-Err-clause-inside c).In-Err).0, c.number_at.ensures, z))

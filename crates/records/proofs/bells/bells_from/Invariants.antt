@@ -8,11 +8,7 @@ use Rattle.records.specs.internal.Filling.{bells_held, BellTable}
 use Rattle.records.proofs.bells.bells_from.Given as goal
 
 abbrev pub invariant-loop-i : goal.invariant-loop-i
-invariant-loop-i l = (l.i ≤ l.n)
-    × (l.at ≤ length l.file)
+invariant-loop-i l = (l.at ≤ length l.file)
     × (length l.phrase ≡ length l.initial.phrase)
     × BellTable l.phrase l.i
     × (bells_from (layout_of l.l) l.file (l.n - l.i) l.at (bells_held l.phrase l.i) ≡ bells_from (layout_of l.l) l.file l.n l.start [])
-
-abbrev pub decreases-loop-i : goal.decreases-loop-i
-decreases-loop-i l = l.n - l.i

@@ -3,6 +3,7 @@ use mathlib.Core.Path.{◌≡◌, sym, ap, ◌∙◌}
 use native.Mathlib.Omega.{arith}
 use mathlib.Core.List.{[]}
 use mathlib.Core.Bool.{true, false}
+use Rattle.fields.proofs.Sizes.{sized}
 use Rattle.model.specs.Refusals.{wrong_end, wrong_bell_count}
 use Rattle.format.specs.Bytes.{number, within}
 use Rattle.format.specs.Layout.{bell_count_at, bells_at, most_bells}
@@ -31,7 +32,7 @@ pub returns-then-file-at : goal.returns-then-file-at
 returns-then-file-at c = let a = c.args in
     let t = a.phrase.now in
     let e = c.bell_count_at-at.ensures in
-    let both = carried (λ o. HoldsBells (list_of o) t) (no_count (layout_of c.args.l) a.file.now (omega (arith, e)) ∙ ap (refused wrong_end) (sym e)) (begins_none t) in record { value = both.0; holds_bells = both.1 }
+    let both = carried (λ o. HoldsBells (list_of o) t) (no_count (layout_of c.args.l) a.file.now (omega (arith, e)) ∙ ap (refused wrong_end) (sym e)) (begins_none t) in record { value = c.refuse.ensures ∙ both.0; holds_bells = both.1 }
 
 pub returns-then-not-is_within : goal.returns-then-not-is_within
 returns-then-not-is_within c = let a = c.args in
@@ -39,13 +40,12 @@ returns-then-not-is_within c = let a = c.args in
     let e = c.bell_count_at-at.ensures in
     let wrong : within 1 most_bells (number 1 (bell_count_at (layout_of c.args.l)) c.args.file.now) ≡ false = sym (tested (goal.at.returns-then-not-is_within c).After-is_within) ∙ c.if-not-is_within.true in
     let both = carried (λ o. HoldsBells (list_of o) t)
-    (bad_count (layout_of c.args.l) a.file.now (omega (arith, e, c.if-file-at.false)) wrong ∙ ap (refused wrong_bell_count) (sym e)) (begins_none t) in record { value = both.0; holds_bells = both.1 }
+    (bad_count (layout_of c.args.l) a.file.now (omega (arith, e, c.if-file-at.false)) wrong ∙ ap (refused wrong_bell_count) (sym e)) (begins_none t) in record { value = c.refuse-then-not-is_within.ensures ∙ both.0; holds_bells = both.1 }
 
 pub bells_from-requires : goal.bells_from-requires
 bells_from-requires c = let bounds = within_true 1 most_bells (number 1 (bell_count_at (layout_of c.args.l)) c.args.file.now) (in_range_holds (goal.at.bells_from-requires c).Else-not-is_within) in (
-  c.requires.0,
   omega (arith, c.bells_at.ensures, c.bell_count_at-at.ensures, c.if-file-at.false),
-  omega (arith, c.bells_at.ensures, c.requires.0.shift),
+  omega (arith, c.bells_at.ensures, (sized c.args.l).shift),
   omega (arith, bounds.1, counted (goal.at.bells_from-requires c).After-byte-count),
   omega arith,
 )

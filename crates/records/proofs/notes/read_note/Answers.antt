@@ -25,20 +25,20 @@ pub returns-then-part-lt1 : goal.returns-then-part-lt1
 returns-then-part-lt1 c = let a = c.args in
     let t = a.phrase.now in
     let bs = bells_held t a.n in
-    let both = carried (λ o. t ≡ note_put a.shift bs o t a.own) (no_length first a.shift bs a.own a.at a.part.now c.if-part-lt1.true) refl in record { value = both.0; phrase_after = both.1 }
+    let both = carried (λ o. t ≡ note_put a.shift bs o t a.own) (no_length first a.shift bs a.own a.at a.part.now c.if-part-lt1.true) refl in record { value = c.refuse.ensures ∙ both.0; phrase_after = both.1 }
 
 pub returns-then-not-is_note_length : goal.returns-then-not-is_note_length
 returns-then-not-is_note_length c = let a = c.args in
     let t = a.phrase.now in
     let bs = bells_held t a.n in
     let wrong = sym (tested (goal.at.returns-then-not-is_note_length c).After-is_note_length) ∙ c.if-not-is_note_length.true in
-    let both = carried (λ o. t ≡ note_put a.shift bs o t a.own) (bad_length first a.shift bs a.own a.at a.part.now c.if-part-lt1.false wrong) refl in record { value = both.0; phrase_after = both.1 }
+    let both = carried (λ o. t ≡ note_put a.shift bs o t a.own) (bad_length first a.shift bs a.own a.at a.part.now c.if-part-lt1.false wrong) refl in record { value = c.refuse-then-not-is_note_length.ensures ∙ both.0; phrase_after = both.1 }
 
 pub returns-then-part-size : goal.returns-then-part-size
 returns-then-part-size c = let a = c.args in
     let t = a.phrase.now in
     let bs = bells_held t a.n in
-    let both = carried (λ o. t ≡ note_put a.shift bs o t a.own) (cut first a.shift bs a.own a.at a.part.now c.if-part-lt1.false (sized (goal.at.returns-then-part-size c).Else-not-is_note_length) (omega (arith, c.if-part-size.true, c.byte-size.ensures.0))) refl in record { value = both.0; phrase_after = both.1 }
+    let both = carried (λ o. t ≡ note_put a.shift bs o t a.own) (cut first a.shift bs a.own a.at a.part.now c.if-part-lt1.false (sized (goal.at.returns-then-part-size c).Else-not-is_note_length) (omega (arith, c.if-part-size.true, c.byte-size.ensures.0))) refl in record { value = c.refuse-then-part-size.ensures ∙ both.0; phrase_after = both.1 }
 
 pub returns : goal.returns
 returns c = let a = c.args in

@@ -24,7 +24,7 @@ returns-then-file-at c = let a = c.args in
     let bs = bells_held t a.n in
     let e = c.note_count_at-at.ensures in
     let r = carried (λ o. HoldsNotes a.shift bs (list_of o) t) (no_count a.l s a.shift bs (note_count_at (layout_of a.l) a.n) (omega (arith, e)) ∙ ap (refused wrong_end) (sym e)) (begins_none a.shift bs t) in
-    record { value = r.0; holds_bells = table_begins t a.n pre.5; holds_notes = r.1 }
+    record { value = c.refuse.ensures ∙ r.0; holds_bells = table_begins t a.n pre.4; holds_notes = r.1 }
 
 pub returns-then-count-gt-MOST_JOBS : goal.returns-then-count-gt-MOST_JOBS
 returns-then-count-gt-MOST_JOBS c = let a = c.args in
@@ -35,7 +35,7 @@ returns-then-count-gt-MOST_JOBS c = let a = c.args in
     let e = c.note_count_at-at.ensures in
     let k = c.byte-count.ensures.0 ∙ ap (λ at. number 1 at s) e in
     let r = carried (λ o. HoldsNotes a.shift bs (list_of o) t) (bad_count a.l s a.shift bs (note_count_at (layout_of a.l) a.n) (omega (arith, e)) (omega (arith, k)) ∙ ap (refused too_many_notes) (sym e)) (begins_none a.shift bs t) in
-    record { value = r.0; holds_bells = table_begins t a.n pre.5; holds_notes = r.1 }
+    record { value = c.refuse-then-count-gt-MOST_JOBS.ensures ∙ r.0; holds_bells = table_begins t a.n pre.4; holds_notes = r.1 }
 
 pub returns : goal.returns
 returns c = let a = c.args in

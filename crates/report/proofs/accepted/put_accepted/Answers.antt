@@ -4,4 +4,4 @@ use Rattle.text.proofs.Writing.{more}
 use Rattle.report.proofs.accepted.put_accepted.Goals as goal
 
 pub returns : goal.returns
-returns c = more (omega arith) c.put_strokes-at.ensures c.put_totals.ensures
+returns c = more (omega arith) c.put-at.ensures c.put_totals.ensures

@@ -4,6 +4,8 @@ use mathlib.Core.List.{[]}
 use native.Mathlib.Omega.{arith}
 use lib.ListN.{length, get_or}
 use borrow.Author.Rules.{rules}
+use Rattle.fields.proofs.Sizes.{sized}
+use Rattle.std.specs.Prelude.{Err}
 use Rattle.model.specs.Refusals.{wrong_bell_count}
 use Rattle.format.specs.Bytes.{within}
 use Rattle.format.specs.Layout.{most_bells}
@@ -13,8 +15,6 @@ use Rattle.fields.specs.internal.Layouts.{layout_of}
 use Rattle.rows.specs.PhraseTable.{bell_count_word, phrase_of}
 use Rattle.rows.proofs.BellRow.{bells_length}
 use Rattle.records.specs.internal.Answers.{reading_of}
-use Rattle.records.specs.declared.answers.Reading.TheVariants.{Refused}
-use Rattle.rules.proofs.Outcomes.{not_whole}
 use Rattle.rules.proofs.Counting.{wrong_count_holds, right_count}
 use Rattle.rules.proofs.bells.ask_bells.Goals as goal
 use Rattle.rules.proofs.bells.ask_bells.Goals.{After-is_within, Else-not-is_within}
@@ -30,13 +30,13 @@ few c =
     let t = c.args.phrase.now in
     (within_true 1 most_bells (get_or t bell_count_word 0) (sym c.is_within.ensures ∙ c.if-not-is_within.false)).1
 
-pub returns-then-not-is_within : goal.returns-then-not-is_within
-returns-then-not-is_within c = let wrong = wrong_count_holds (layout_of c.args.l) ((phrase_of c.args.phrase.now).bells) (counted (goal.at.returns-then-not-is_within c).After-is_within ∙ c.if-not-is_within.true) in
-    record { value = ap (Refused wrong_bell_count) c.bell_count_at.ensures ∙ ap reading_of (sym wrong); sounded = (λ e. not_whole _ _ e) }
+pub returns-then-not-is_within-clause-value : goal.returns-then-not-is_within-clause-value
+returns-then-not-is_within-clause-value c = let wrong = wrong_count_holds (layout_of c.args.l) ((phrase_of c.args.phrase.now).bells) (counted (goal.at.returns-then-not-is_within-clause-value c).After-is_within ∙ c.if-not-is_within.true) in
+    c.refuse.ensures ∙ ap (λ at. Err (record { number = wrong_bell_count; place = at })) c.bell_count_at.ensures ∙ ap reading_of (sym wrong)
 
 pub bells_from-requires : goal.bells_from-requires
-bells_from-requires c = (c.requires.0, search rules, omega (arith, c.bells_at.ensures, c.requires.0.shift), few (goal.at.bells_from-requires c).Else-not-is_within, c.requires.1, c.requires.2)
+bells_from-requires c = (search rules, omega (arith, c.bells_at.ensures, (sized c.args.l).shift), few (goal.at.bells_from-requires c).Else-not-is_within, c.requires.0, c.requires.1)
 
-pub returns : goal.returns
-returns c = let all = right_count (layout_of c.args.l) ((phrase_of c.args.phrase.now).bells) (counted (goal.at.returns c).After-is_within ∙ c.if-not-is_within.false) in
-    record { value = c.bells_from.ensures.value ∙ ap (λ k. reading_of (bells_rules (layout_of c.args.l) ((phrase_of c.args.phrase.now).bells) k [])) c.bells_at.ensures ∙ ap reading_of (sym all); sounded = c.bells_from.ensures.sounded }
+pub returns-clause-value : goal.returns-clause-value
+returns-clause-value c = let all = right_count (layout_of c.args.l) ((phrase_of c.args.phrase.now).bells) (counted (goal.at.returns-clause-value c).After-is_within ∙ c.if-not-is_within.false) in
+    c.bells_from.ensures.value ∙ ap (λ k. reading_of (bells_rules (layout_of c.args.l) ((phrase_of c.args.phrase.now).bells) k [])) c.bells_at.ensures ∙ ap reading_of (sym all)

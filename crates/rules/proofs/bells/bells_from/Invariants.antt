@@ -1,5 +1,5 @@
 use mathlib.Core.Path.{◌≡◌}
-use Prim.Native.Nat.{◌+◌, ◌-◌, ◌*◌, ◌≤◌}
+use Prim.Native.Nat.{◌+◌, ◌*◌, ◌≤◌}
 use mathlib.Core.List.{[]}
 use lib.ListN.{length, take, drop}
 use Rattle.format.specs.Layout.{longest_file}
@@ -11,11 +11,7 @@ use Rattle.rules.specs.internal.Asking.{Sounded}
 use Rattle.rules.proofs.bells.bells_from.Given as goal
 
 abbrev pub invariant-loop-i : goal.invariant-loop-i
-invariant-loop-i l = (l.i ≤ l.n)
-    × (l.at ≤ longest_file + l.i * 9)
+invariant-loop-i l = (l.at ≤ longest_file + l.i * 9)
     × (length l.sounded ≡ length l.initial.sounded)
     × Sounded (take l.i (bells_of_rows (drop bell_rows_at l.phrase) l.n)) l.sounded
     × (bells_rules (layout_of l.l) (drop l.i (bells_of_rows (drop bell_rows_at l.phrase) l.n)) l.at (take l.i (bells_of_rows (drop bell_rows_at l.phrase) l.n)) ≡ bells_rules (layout_of l.l) (bells_of_rows (drop bell_rows_at l.phrase) l.n) l.start [])
-
-abbrev pub decreases-loop-i : goal.decreases-loop-i
-decreases-loop-i l = l.n - l.i

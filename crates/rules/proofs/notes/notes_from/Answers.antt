@@ -17,13 +17,13 @@ use Rattle.rows.specs.PhraseTable.{note_rows_at, phrase_of}
 use Rattle.rows.proofs.Records.{rows_length}
 use Rattle.rows.proofs.RowsRead.{note_lent}
 use Rattle.records.specs.internal.Answers.{reading_of}
-use Rattle.records.proofs.Outcomes.{was_ok, was_refused}
+use Rattle.records.proofs.Outcomes.{was_ok, was_refused, passed_on}
 use Rattle.rules.specs.internal.Answers.{end_of}
 use Rattle.rules.specs.internal.Asking.{note_asked, notes_end}
 use Rattle.rules.proofs.Turns.{same_note, next_note, stop_note, last_note_holds}
 use Rattle.rules.proofs.NoteLent.{asked_lent, no_bytes, more_bytes}
 use Rattle.rules.proofs.notes.notes_from.Goals as goal
-use Rattle.rules.proofs.notes.notes_from.Goals.{After-ask_note, In_default}
+use Rattle.rules.proofs.notes.notes_from.Goals.{After-ask_note, In_ok-ask_note}
 
 note_length_first : (k : ℕ) → note_length first k ≡ 13 + k
 unfolding note_length
@@ -47,11 +47,11 @@ answer c =
     ∙ ap reading_of (asked_lent ((phrase_of c.args.phrase.now).shift) ((phrase_of c.args.phrase.now).bells) v.i v.at (drop (note_rows_at + c.loop-i.i * note_words) c.args.phrase.now) (wide c))
     ∙ ap (λ n. reading_of (note_asked ((phrase_of c.args.phrase.now).shift) ((phrase_of c.args.phrase.now).bells) v.i v.at n)) (lent c)
 
-taken : (c : In_default) → (n : Note) × ((note_asked ((phrase_of c.args.phrase.now).shift) ((phrase_of c.args.phrase.now).bells) c.loop-i.i c.loop-i.at (get_or (notes_of_rows (drop note_rows_at c.args.phrase.now) c.args.count) c.loop-i.i no_note)) ≡ ok n)
-taken c = was_ok _ (sym (let v = c.loop-i in let from = note_rows_at + v.i * note_words in let width : from + note_words - from ≡ note_words = omega arith in c.ask_note.ensures ((phrase_of c.args.phrase.now).bells) c.requires.5 ∙ ap (λ k. reading_of (note_asked ((phrase_of c.args.phrase.now).shift) ((phrase_of c.args.phrase.now).bells) v.i v.at (note_of_row (take k (drop (note_rows_at + c.loop-i.i * note_words) c.args.phrase.now))))) width ∙ ap reading_of (asked_lent ((phrase_of c.args.phrase.now).shift) ((phrase_of c.args.phrase.now).bells) v.i v.at (drop (note_rows_at + c.loop-i.i * note_words) c.args.phrase.now) (let test = c.loop-i-test.true in omega (arith, c.requires.0, c.requires.1, length-drop (note_rows_at + c.loop-i.i * note_words) c.args.phrase.now))) ∙ ap (λ n. reading_of (note_asked ((phrase_of c.args.phrase.now).shift) ((phrase_of c.args.phrase.now).bells) v.i v.at n)) (note_lent c.args.phrase.now c.args.count c.loop-i.i c.loop-i-test.true)) ∙ c.in_default.is)
+taken : (c : In_ok-ask_note) → (n : Note) × ((note_asked ((phrase_of c.args.phrase.now).shift) ((phrase_of c.args.phrase.now).bells) c.loop-i.i c.loop-i.at (get_or (notes_of_rows (drop note_rows_at c.args.phrase.now) c.args.count) c.loop-i.i no_note)) ≡ ok n)
+taken c = was_ok _ (sym (let v = c.loop-i in let from = note_rows_at + v.i * note_words in let width : from + note_words - from ≡ note_words = omega arith in c.ask_note.ensures ((phrase_of c.args.phrase.now).bells) c.requires.5 ∙ ap (λ k. reading_of (note_asked ((phrase_of c.args.phrase.now).shift) ((phrase_of c.args.phrase.now).bells) v.i v.at (note_of_row (take k (drop (note_rows_at + c.loop-i.i * note_words) c.args.phrase.now))))) width ∙ ap reading_of (asked_lent ((phrase_of c.args.phrase.now).shift) ((phrase_of c.args.phrase.now).bells) v.i v.at (drop (note_rows_at + c.loop-i.i * note_words) c.args.phrase.now) (let test = c.loop-i-test.true in omega (arith, c.requires.0, c.requires.1, length-drop (note_rows_at + c.loop-i.i * note_words) c.args.phrase.now))) ∙ ap (λ n. reading_of (note_asked ((phrase_of c.args.phrase.now).shift) ((phrase_of c.args.phrase.now).bells) v.i v.at n)) (note_lent c.args.phrase.now c.args.count c.loop-i.i c.loop-i-test.true)) ∙ c.in_ok-ask_note.was)
 
 -- it is that of the jobs that the note lists, and these are few
-sized : (c : In_default)
+sized : (c : In_ok-ask_note)
     → ((let from = note_rows_at + c.loop-i.i * note_words in get_or (take (from + note_words - from) (drop (note_rows_at + c.loop-i.i * note_words) c.args.phrase.now)) listed_count_word 0) ≡ length (get_or (notes_of_rows (drop note_rows_at c.args.phrase.now) c.args.count) c.loop-i.i no_note).listed) × (length (get_or (notes_of_rows (drop note_rows_at c.args.phrase.now) c.args.count) c.loop-i.i no_note).listed ≤ most_listed)
 sized c =
     let v = c.loop-i in
@@ -73,26 +73,26 @@ short c =
 
 pub loop-i-init : goal.loop-i-init
 loop-i-init c = let a = c.args in
-    (omega arith, omega (arith, no_bytes (notes_of_rows (drop note_rows_at a.phrase.now) a.count)), omega arith, refl)
+    (omega (arith, no_bytes (notes_of_rows (drop note_rows_at a.phrase.now) a.count)), omega arith, refl)
 
-pub returns-in-Refused : goal.returns-in-Refused
-returns-in-Refused c = let a = c.args in
+pub returns-in_err-ask_note : goal.returns-in_err-ask_note
+returns-in_err-ask_note c = let a = c.args in
     let v = c.loop-i in
-    let q = was_refused (note_asked ((phrase_of c.args.phrase.now).shift) ((phrase_of c.args.phrase.now).bells) c.loop-i.i c.loop-i.at (get_or (notes_of_rows (drop note_rows_at c.args.phrase.now) c.args.count) c.loop-i.i no_note)) _ _ (sym (answer (goal.at.returns-in-Refused c).After-ask_note) ∙ c.in-Refused.is) in
-    let w = sym v.invariant.3 ∙ stop_note first ((phrase_of c.args.phrase.now).shift) ((phrase_of c.args.phrase.now).bells) (notes_of_rows (drop note_rows_at c.args.phrase.now) c.args.count) v.i v.at (short (goal.at.returns-in-Refused c).After-ask_note) _ _ q in
-    ap (λ o. end_of o (notes_end a.start (notes_of_rows (drop note_rows_at c.args.phrase.now) c.args.count))) (sym w)
+    let q = was_refused (note_asked ((phrase_of c.args.phrase.now).shift) ((phrase_of c.args.phrase.now).bells) c.loop-i.i c.loop-i.at (get_or (notes_of_rows (drop note_rows_at c.args.phrase.now) c.args.count) c.loop-i.i no_note)) _ (sym (answer (goal.at.returns-in_err-ask_note c).After-ask_note) ∙ c.in_err-ask_note.was) in
+    let w = sym v.invariant.2 ∙ stop_note first ((phrase_of c.args.phrase.now).shift) ((phrase_of c.args.phrase.now).bells) (notes_of_rows (drop note_rows_at c.args.phrase.now) c.args.count) v.i v.at (short (goal.at.returns-in_err-ask_note c).After-ask_note) _ _ q in
+    passed_on c.from_residual.ensures.1
+    ∙ ap (λ o. end_of o (notes_end a.start (notes_of_rows (drop note_rows_at c.args.phrase.now) c.args.count))) (sym w)
 
 pub loop-i-preserved : goal.loop-i-preserved
 loop-i-preserved c = let v = c.loop-i in
-    let z = sized (goal.at.loop-i-preserved c).In_default in
+    let z = sized (goal.at.loop-i-preserved c).In_ok-ask_note in
     let k = length (get_or (notes_of_rows (drop note_rows_at c.args.phrase.now) c.args.count) c.loop-i.i no_note).listed in
     let more = more_bytes (notes_of_rows (drop note_rows_at c.args.phrase.now) c.args.count) v.i (short (goal.at.loop-i-preserved c).After-ask_note) in
-    let next = next_note first ((phrase_of c.args.phrase.now).shift) ((phrase_of c.args.phrase.now).bells) (notes_of_rows (drop note_rows_at c.args.phrase.now) c.args.count) v.i v.at (short (goal.at.loop-i-preserved c).After-ask_note) (taken (goal.at.loop-i-preserved c).In_default).0 (taken (goal.at.loop-i-preserved c).In_default).1 in
+    let next = next_note first ((phrase_of c.args.phrase.now).shift) ((phrase_of c.args.phrase.now).bells) (notes_of_rows (drop note_rows_at c.args.phrase.now) c.args.count) v.i v.at (short (goal.at.loop-i-preserved c).After-ask_note) (taken (goal.at.loop-i-preserved c).In_ok-ask_note).0 (taken (goal.at.loop-i-preserved c).In_ok-ask_note).1 in
     let step : v.at + (14 + (let from = note_rows_at + c.loop-i.i * note_words in get_or (take (from + note_words - from) (drop (note_rows_at + c.loop-i.i * note_words) c.args.phrase.now)) listed_count_word 0)) ≡ v.at + (1 + note_length first k) = omega (arith, z.0, note_length_first k) in (
-      omega arith,
-      omega (arith, v.invariant.1, more, step),
+      omega (arith, v.invariant.0, more, step),
       omega (arith, z.0, z.1),
-      ap (λ p. notes_rules first ((phrase_of c.args.phrase.now).shift) ((phrase_of c.args.phrase.now).bells) (drop (v.i + 1) (notes_of_rows (drop note_rows_at c.args.phrase.now) c.args.count)) p (take (v.i + 1) (notes_of_rows (drop note_rows_at c.args.phrase.now) c.args.count))) step ∙ sym next ∙ v.invariant.3,
+      ap (λ p. notes_rules first ((phrase_of c.args.phrase.now).shift) ((phrase_of c.args.phrase.now).bells) (drop (v.i + 1) (notes_of_rows (drop note_rows_at c.args.phrase.now) c.args.count)) p (take (v.i + 1) (notes_of_rows (drop note_rows_at c.args.phrase.now) c.args.count))) step ∙ sym next ∙ v.invariant.2,
     )
 
 pub returns : goal.returns
@@ -101,6 +101,6 @@ returns c = let a = c.args in
     let t = notes_of_rows (drop note_rows_at a.phrase.now) a.count in
     let x = phrase_of a.phrase.now in
     let end : length t ≤ v.i = omega (arith, rows_length note_of_row note_words (drop note_rows_at a.phrase.now) a.count) in
-    let w = sym v.invariant.3 ∙ last_note_holds first x.shift x.bells t v.i v.at end in
-    let place : v.at ≡ notes_end a.start t = v.invariant.1 ∙ ap (λ l. a.start + length (records (note_file first) l)) (take_all v.i t end) in
+    let w = sym v.invariant.2 ∙ last_note_holds first x.shift x.bells t v.i v.at end in
+    let place : v.at ≡ notes_end a.start t = v.invariant.0 ∙ ap (λ l. a.start + length (records (note_file first) l)) (take_all v.i t end) in
     (λ k. end_of (sym w k) (place k))

@@ -1,5 +1,5 @@
 use mathlib.Core.Path.{◌≡◌}
-use Prim.Native.Nat.{◌+◌, ◌-◌, ◌*◌, ◌≤◌}
+use Prim.Native.Nat.{◌+◌, ◌*◌, ◌≤◌}
 use mathlib.Core.List.{[]}
 use lib.ListN.{length, take, drop}
 use Rattle.format.specs.Bytes.{records}
@@ -11,11 +11,7 @@ use Rattle.rows.specs.PhraseTable.{note_rows_at, phrase_of}
 use Rattle.rules.proofs.notes.notes_from.Given as goal
 
 abbrev pub invariant-loop-i : goal.invariant-loop-i
-invariant-loop-i l = (l.i ≤ l.count)
-    × (l.at ≡ l.start + length (records (note_file first) (take l.i (notes_of_rows (drop note_rows_at l.phrase) l.count))))
+invariant-loop-i l = (l.at ≡ l.start + length (records (note_file first) (take l.i (notes_of_rows (drop note_rows_at l.phrase) l.count))))
     × (l.at ≤ l.start + l.i * 18)
     × (notes_rules first (phrase_of l.phrase).shift (phrase_of l.phrase).bells (drop l.i (notes_of_rows (drop note_rows_at l.phrase) l.count)) l.at (take l.i (notes_of_rows (drop note_rows_at l.phrase) l.count))
     ≡ notes_rules first (phrase_of l.phrase).shift (phrase_of l.phrase).bells (notes_of_rows (drop note_rows_at l.phrase) l.count) l.start [])
-
-abbrev pub decreases-loop-i : goal.decreases-loop-i
-decreases-loop-i l = l.count - l.i

@@ -14,7 +14,7 @@ returns c = let m = c.args.m in
     let src = c.args.src.now in
     let w = c.state_words-w.result in
     let n : w - 0 ≡ state_words m k = omega (arith, c.state_words-w.ensures) in
-    let out = c.copy.new.dst in
+    let out = c.copy_from_slice.new.self in
     let rest = post_of 0 (w - 0) c.args.cur.now in
-    let copied : out ≡ take (state_words m k) src = c.copy.ensures ∙ ap (λ z. take z src) n in
+    let copied : out ≡ take (state_words m k) src = c.copy_from_slice.ensures.after ∙ ap (λ z. take z src) n in
     (copied_state m k src out rest c.requires.3 copied, copied_set m k src out rest c.requires.3 copied)

@@ -1,17 +1,12 @@
--- `all_at_most` meets its contract: the words so far are at most their counterparts.
-use mathlib.Core.Path.{sym, ◌∙◌}
-use native.Mathlib.Omega.{arith}
-use Rattle.states.proofs.Pairs.{every_stop, every_on, every_end}
+-- `all_at_most` meets its contract: the words are tested pair by pair.
+use Rattle.std.proofs.Common.{rules, tests, ◌<◌, ◌≤◌}
+use Rattle.std.proofs.lemmas.Iterator.{YieldsList-from_slice, YieldsList-from_zip, cases_from_all}
+use Rattle.states.proofs.Pairs.{every_tested}
 use Rattle.states.proofs.merging.all_at_most.Goals as goal
 
-pub returns-then-y-i : goal.returns-then-y-i
-returns-then-y-i c = let t = c.loop-i in
-    sym (t.invariant.1 ∙ every_stop c.args.x.now c.args.y.now t.i c.requires (omega arith) (omega arith))
-
-pub loop-i-preserved : goal.loop-i-preserved
-loop-i-preserved c = let t = c.loop-i in
-    (omega arith, t.invariant.1 ∙ every_on c.args.x.now c.args.y.now t.i c.requires (omega arith) (omega arith))
-
 pub returns : goal.returns
-returns c = let t = c.loop-i in
-    sym (t.invariant.1 ∙ every_end c.args.x.now c.args.y.now t.i c.requires (omega arith))
+returns c =
+    every_tested c.args.x.now c.args.y.now _ c.requires (
+    cases_from_all c.all.new.self _ _ (λ p. p.0 ≤ p.1) (λ p. p.1 < p.0) c.all.ensures.ran
+    (YieldsList-from_zip (YieldsList-from_slice c.args.x.now cc) (YieldsList-from_slice c.args.y.now cc)) (λ x q k. search (rules, tests)) (λ x q k. search (rules, tests))
+    )

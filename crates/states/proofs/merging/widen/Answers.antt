@@ -12,8 +12,8 @@ pub returns : goal.returns
 returns c = let a = c.args.a in
     let n = c.args.n in
     let d = c.args.d.now in
-    let x = c.lower_to in
-    let y = c.raise_to in
+    let x = c.move_ends in
+    let y = c.move_ends-2 in
     let p : a + n - a ≡ n = omega arith in
     let q : a + n + n - (a + n) ≡ n = omega arith in
     let lx : length x.new.d ≡ n = rw p at x.auto.d ∙ part_length a n d (omega (arith, c.requires)) in

@@ -14,8 +14,8 @@ use Rattle.steps.proofs.observed.observe.Goals as goal
 pub returns : goal.returns
 returns c = let a = c.args in
     let p = c.requires in (
-      observed_set a.k a.seen.now a.i c.widened_in_place-r.result.earliest c.widened_in_place-r.result.latest p.0 p.1 p.3
+      observed_set a.k a.seen.now a.i c.widen.new.r.earliest c.widen.new.r.latest p.0 p.1 p.3
           ∙ ap (λ (z : Range). set (observed_of a.k a.seen.now) a.i z)
-          (ap range_of c.widened_in_place-r.ensures ∙ widened_hull (record { earliest = get_or a.seen.now a.i 0; latest = get_or a.seen.now (most_jobs + a.i) 0 }) a.e a.f p.2 ∙ ap (λ (z : Range). hull z (range a.e a.f)) (sym (observed_at_holds a.k a.seen.now a.i p.0))),
-      observed_kept a.k a.seen.now a.i c.widened_in_place-r.result.earliest c.widened_in_place-r.result.latest p.0 p.1 p.3,
+          (ap range_of c.widen.ensures ∙ widened_hull (record { earliest = get_or a.seen.now a.i 0; latest = get_or a.seen.now (most_jobs + a.i) 0 }) a.e a.f p.2 ∙ ap (λ (z : Range). hull z (range a.e a.f)) (sym (observed_at_holds a.k a.seen.now a.i p.0))),
+      observed_kept a.k a.seen.now a.i c.widen.new.r.earliest c.widen.new.r.latest p.0 p.1 p.3,
     )

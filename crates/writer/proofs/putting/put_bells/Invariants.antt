@@ -1,4 +1,3 @@
-use Prim.Native.Nat.{◌-◌, ◌≤◌}
 use mathlib.Core.Path.{◌≡◌}
 use lib.ListN.{length}
 use Rattle.format.specs.Writing.{bell_file}
@@ -8,10 +7,6 @@ use Rattle.writer.proofs.PutBells.{bells, bell_place}
 use Rattle.writer.proofs.putting.put_bells.Given as goal
 
 abbrev pub invariant-loop-i : goal.invariant-loop-i
-invariant-loop-i l = (l.i ≤ l.n)
-    × (length l.file ≡ length l.initial.file)
+invariant-loop-i l = (length l.file ≡ length l.initial.file)
     × (l.at ≡ bell_place l.phrase l.n (layout_of l.l) l.start l.i)
     × (l.file ≡ put (bell_file (layout_of l.l)) (bells l.phrase l.n) l.start l.initial.file l.i)
-
-abbrev pub decreases-loop-i : goal.decreases-loop-i
-decreases-loop-i l = l.n - l.i

@@ -25,8 +25,8 @@ room c =
     let from = note_rows_at + c.loop-i.i * note_words in
     omega (
       arith,
+      c.loop-i.invariant.0,
       c.loop-i.invariant.1,
-      c.loop-i.invariant.2,
       c.requires.2,
       note_within c.args.phrase.now c.args.count c.requires.0 c.requires.1 c.requires.3 c.loop-i.i c.loop-i-test.true
           (from + note_words - from) (omega arith) c.args.start,
@@ -35,7 +35,7 @@ room c =
 pub loop-i-init : goal.loop-i-init
 unfolding records
 loop-i-init c = let a = c.args in
-    (omega arith, refl, omega arith, sym (put_none (note_file first) (notes a.phrase.now a.count) a.start a.file.now))
+    (refl, omega arith, sym (put_none (note_file first) (notes a.phrase.now a.count) a.start a.file.now))
 
 pub overflow_add-end-in-loop-i-2 : goal.overflow_add-end-in-loop-i-2
 overflow_add-end-in-loop-i-2 c = omega (arith, room (goal.at.overflow_add-end-in-loop-i-2 c).In-loop-i)
@@ -62,11 +62,10 @@ loop-i-preserved c = let v = c.loop-i in
     let m = from + note_words - from in
     let k = v.at + size_of (let from = note_rows_at + c.loop-i.i * note_words in lent c.args.phrase.now c.loop-i.i (from + note_words - from)) - v.at in
     let ws = c.put_note.new.part in (
-      omega arith,
-      same_len_mid v.at k v.file ws c.put_note.auto.part ∙ v.invariant.1,
-      omega (arith, v.invariant.2, note_next phrase n c.requires.0 c.requires.1 c.requires.3 v.i h m (omega arith) start),
-      ap (λ was. put_mid v.at k was ws) v.invariant.3
-          ∙ note_put_holds phrase n c.requires.0 c.requires.1 c.requires.3 v.i h m (omega arith) start c.args.file.now (omega arith) v.at k v.invariant.2
+      same_len_mid v.at k v.file ws c.put_note.auto.part ∙ v.invariant.0,
+      omega (arith, v.invariant.1, note_next phrase n c.requires.0 c.requires.1 c.requires.3 v.i h m (omega arith) start),
+      ap (λ was. put_mid v.at k was ws) v.invariant.2
+          ∙ note_put_holds phrase n c.requires.0 c.requires.1 c.requires.3 v.i h m (omega arith) start c.args.file.now (omega arith) v.at k v.invariant.1
           (omega arith) ws c.put_note.ensures,
     )
 
@@ -74,4 +73,4 @@ pub returns : goal.returns
 returns c = let a = c.args in
     let ns = notes a.phrase.now a.count in
     let last : length ns ≤ c.loop-i.i = omega (arith, notes_count a.phrase.now a.count) in
-    c.loop-i.invariant.3 ∙ put_all (note_file first) ns a.start a.file.now c.loop-i.i last
+    c.loop-i.invariant.2 ∙ put_all (note_file first) ns a.start a.file.now c.loop-i.i last

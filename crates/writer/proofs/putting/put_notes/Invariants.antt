@@ -1,4 +1,3 @@
-use Prim.Native.Nat.{◌-◌, ◌≤◌}
 use mathlib.Core.Path.{◌≡◌}
 use lib.ListN.{length}
 use Rattle.format.specs.Layout.{first}
@@ -8,7 +7,4 @@ use Rattle.writer.proofs.PutNotes.{notes, note_place}
 use Rattle.writer.proofs.putting.put_notes.Given as goal
 
 abbrev pub invariant-loop-i : goal.invariant-loop-i
-invariant-loop-i l = (l.i ≤ l.count) × (length l.file ≡ length l.initial.file) × (l.at ≡ note_place l.phrase l.count l.start l.i) × (l.file ≡ put (note_file first) (notes l.phrase l.count) l.start l.initial.file l.i)
-
-abbrev pub decreases-loop-i : goal.decreases-loop-i
-decreases-loop-i l = l.count - l.i
+invariant-loop-i l = (length l.file ≡ length l.initial.file) × (l.at ≡ note_place l.phrase l.count l.start l.i) × (l.file ≡ put (note_file first) (notes l.phrase l.count) l.start l.initial.file l.i)
