@@ -6,7 +6,6 @@ FOLDER is a checkout, this one by default. It reads the text alone, so it finds 
 import re
 import sys
 from collections import defaultdict
-from itertools import combinations
 from pathlib import Path
 
 WORD = re.compile(r"[A-Za-z_][A-Za-z0-9_]*|\d+|b?\"[^\"]*\"|\S")
@@ -21,6 +20,19 @@ def sources(root):
 
 def without_comments(text):
     return re.sub(r"//.*", "", text)
+
+
+def lines(root, says):
+    """The lines of code of which `says`, given a line's file and text, tells what the list has; none where it says nothing."""
+    for path, text in sources(root):
+        for i, line in enumerate(without_comments(text).split("\n"), 1):
+            said = says(str(path), line)
+            if said is not None:
+                yield f"{path}:{i} {said}{line.strip()}"
+
+
+def matching(root, pattern):
+    return lines(root, lambda path, line: "" if re.search(pattern, line) else None)
 
 
 def closing(text, start):
@@ -82,16 +94,10 @@ def shape(body):
 
 
 def point_1(root):
-    for path, text in sources(root):
-        for i, line in enumerate(without_comments(text).split("\n"), 1):
-            if re.search(r"\benum \w+", line):
-                yield f"{path}:{i} {line.strip()}"
-    for path, text in sources(root):
-        for i, line in enumerate(without_comments(text).split("\n"), 1):
-            if str(path).endswith("refusals.rt") and "const" in line:
-                yield f"{path}:{i} number of a refusal: {line.strip()}"
-            if re.search(r"struct \w+\(\[u8", line) or re.search(r"== 1$|\] = 1;|NO_LIMIT:|ASLEEP:|STARTED:", line.strip()):
-                yield f"{path}:{i} a flag or a mark: {line.strip()}"
+    yield from matching(root, r"\benum \w+")
+    yield from lines(root, lambda path, line: "number of a refusal: " if path.endswith("refusals.rt") and "const" in line else None)
+    mark = r"struct \w+\(\[u8|== 1$|\] = 1;|NO_LIMIT:|ASLEEP:|STARTED:"
+    yield from lines(root, lambda path, line: "a flag or a mark: " if re.search(mark, line.strip()) else None)
 
 
 def point_2(root):
@@ -105,10 +111,7 @@ def point_2(root):
 
 
 def point_3(root):
-    for path, text in sources(root):
-        for i, line in enumerate(without_comments(text).split("\n"), 1):
-            if re.match(r"\s*(while|loop)\b", line):
-                yield f"{path}:{i} {line.strip()}"
+    return matching(root, r"^\s*(while|loop)\b")
 
 
 def point_4(root):
@@ -137,25 +140,19 @@ def point_5(root):
 
 
 def point_6(root):
-    for path, text in sources(root):
-        for i, line in enumerate(without_comments(text).split("\n"), 1):
-            if re.search(r"let mut \w+ = \[", line) or re.search(r"struct \w+\(\[", line) or re.search(r"^\s*(pub )?\w+: \[\w+;", line):
-                yield f"{path}:{i} {line.strip()}"
+    return matching(root, r"let mut \w+ = \[|struct \w+\(\[|^\s*(pub )?\w+: \[\w+;")
 
 
 def point_7(root):
-    for path, text in sources(root):
-        for i, line in enumerate(without_comments(text).split("\n"), 1):
-            if re.search(r"\bdyn\b|\bfn\(", line):
-                yield f"{path}:{i} {line.strip()}"
+    return matching(root, r"\bdyn\b|\bfn\(")
 
 
 def point_8(root):
     for crate in sorted(p.name for p in root.glob("crates/*") if p.is_dir()):
         answers = sum(len(re.findall(r"^pub ", p.read_text(), re.M)) for p in root.glob(f"crates/{crate}/proofs/**/Answers.antt"))
-        lines = sum(p.read_text().count("\n") for p in root.glob(f"crates/{crate}/proofs/**/*.antt"))
-        if lines:
-            yield f"{crate}: {answers} answers, {lines} lines of proofs"
+        length = sum(p.read_text().count("\n") for p in root.glob(f"crates/{crate}/proofs/**/*.antt"))
+        if length:
+            yield f"{crate}: {answers} answers, {length} lines of proofs"
 
 
 def main():
