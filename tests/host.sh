@@ -571,6 +571,18 @@ if build 'tests/host/threads.c builds' tests/host/threads.c "$folder/threads" -O
   passes 'threads' "$folder/threads" || true
 fi
 
+# ---- What the library needs of the C library: a host without one gives these two ----
+
+if [ "${#libraries[@]}" -gt 0 ]; then
+  echo 'tests/host.sh: note: names from outside not looked at: LDLIBS adds to what is linked'
+elif command -v nm >/dev/null; then
+  printf 'memcpy\nmemset\n' >"$folder/due"
+  nm -u "$library" | sed -n 's/^ *U //p' | sort -u >"$folder/found" || true
+  same 'of the C library memcpy and memset only' "$folder/due" "$folder/found"
+else
+  left_out 'nm' 'no nm: names from outside not looked at'
+fi
+
 # ---- The stack, with memcpy and memset bound at the start and at the first call ----
 
 # strokes BELLS: 64 strokes on 8 drivers. Those of one bell are accepted and have a long text; those of eight need a larger table.

@@ -10,9 +10,10 @@ pub fn put_bytes(buffer: &mut [u8], at: usize, s: &[u8]) -> usize
     requires { Room buffer.old at s.now }
     ensures { Written buffer.old at s.now buffer.new result }
 {
-    let end = at + s.len();
-    buffer[at..end].copy_from_slice(s);
-    end
+    for (i, byte) in s.iter().enumerate() {
+        buffer[at + i] = *byte;
+    }
+    at + s.len()
 }
 
 // The last digit of n.
