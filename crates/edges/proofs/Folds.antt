@@ -1,4 +1,4 @@
--- Folds over a list: the largest place by place, and the smallest turn by turn. Assumes nothing.
+-- Folds over a list: the largest, element by element and place by place, and the smallest turn by turn. Assumes nothing.
 use Prim.Native.Nat.{ℕ, zero, suc, ◌+◌, ◌<◌, ◌≤◌, min, max}
 use mathlib.Core.Path.{◌≡◌, refl, sym, ap, ◌∙◌}
 use mathlib.Core.Bool.{Bool, true, false, ◌&&◌, cond}
@@ -13,24 +13,7 @@ use Rattle.model.specs.Folds as folds
 use Rattle.edges.specs.internal.Edges.{list_below, no_limit, limit_word, lower, smallest_in}
 use Rattle.edges.proofs.Listing.{fold_listed, fold_turn}
 
--- ---- the largest, place by place
-
-module _ (p : ℕ → Bool) (f : ℕ → ℕ) (l : List ℕ) where
-  -- what one place gives
-  abbrev pub given_at : ℕ → ℕ
-  given_at j = cond (p (get_or l j 0)) (f (get_or l j 0)) 0
-
-  -- over the places from `a` on, of which n are left, it is the larger of a number and of the largest of what is left of the list
-  pub largest_by_place : (r a n : ℕ) → a + n ≡ length l → fold (λ x y. max x y) r (map given_at (range_with_len a n)) ≡ max r (largest p f (drop a l))
-  unfolding largest
-  largest_by_place r a zero e = rw (drop_of_length-le l {i = a} (omega arith)) (omega arith)
-  largest_by_place r a (suc n) e =
-      let here = ap (largest p f) (drop-cons l a 0 (omega arith)) in
-      let x = max r (given_at a) in
-      let rest = largest_by_place x (a + 1) n (omega arith) ∙ ap (λ (b : ℕ). max x (largest p f (drop b l))) (add-one a) in
-      rest ∙ omega (arith, here)
-
--- ---- the same element by element: the larger of r and what is left of the n elements, from index j on, is the whole
+-- ---- the largest, element by element: the larger of r and what is left of the n elements, from index j on, is the whole
 
 module _ (p : ℕ → Bool) (f : ℕ → ℕ) (l : List ℕ) (whole : ℕ) where
   -- the list has n elements, and r with those from index j on gives the whole
@@ -48,6 +31,22 @@ module _ (p : ℕ → Bool) (f : ℕ → ℕ) (l : List ℕ) (whole : ℕ) where
   pub largest_done : (n r j : ℕ) → LargestLeft n r j → n ≤ j → r ≡ whole
   unfolding largest
   largest_done n r j (many, left) h = omega (arith, left, ap (largest p f) (drop_of_length-le l {i = j} (omega arith)))
+
+-- ---- the largest, place by place
+
+module _ (p : ℕ → Bool) (f : ℕ → ℕ) (l : List ℕ) where
+  -- what one place gives
+  abbrev pub given_at : ℕ → ℕ
+  given_at j = cond (p (get_or l j 0)) (f (get_or l j 0)) 0
+
+  -- over the places from `a` on, of which n are left, it is the larger of a number and of the largest of what is left of the list
+  pub largest_by_place : (r a n : ℕ) → a + n ≡ length l → fold (λ x y. max x y) r (map given_at (range_with_len a n)) ≡ max r (largest p f (drop a l))
+  largest_by_place r a zero e = largest_done p f l (max r (largest p f (drop a l))) (length l) r a (refl, refl) (omega arith)
+  largest_by_place r a (suc n) e =
+      let whole = max r (largest p f (drop a l)) in
+      let x = max r (given_at a) in
+      let turned = largest_next p f l whole (length l) r a (given_at a) x (refl, refl) (omega arith) refl refl in
+      largest_by_place x (a + 1) n (omega arith) ∙ turned.1
 
 -- ---- the smallest of those in a list that pass: r is that of the elements before index t
 

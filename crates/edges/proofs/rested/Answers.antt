@@ -53,6 +53,6 @@ returns g c =
     let finish = λ (w : ℕ). g.E.End.of (finish_of (state_of c.args.m c.args.k c.args.s.now) w) in
     let rests : last_rest js c.args.i ≡ 0 → ⊥ = λ e. c.if-rest-eq0.false (c.last_rest-rest.ensures ∙ e) in
     let waits = predecessors js c.args.i in
-    let last : finish (get_or waits (c.predecessor_count-last.result - 1) 0) ≡ finish (get_or waits (length waits - 1) 0) =
-    ap (λ (x : ℕ). finish (get_or waits (x - 1) 0)) c.predecessor_count-last.ensures.0 in
-    omega (arith, c.predecessor_finish.ensures, last, c.last_rest-rest.ensures, last_rests js c.args.i finish rests)
+    let last : c.predecessor_finish.result ≡ finish (get_or waits (length waits - 1) 0) =
+    c.predecessor_finish.ensures ∙ ap (λ (x : ℕ). finish (get_or waits x 0)) (omega (arith, c.predecessor_count-last.ensures.0)) in
+    omega (arith, last, c.last_rest-rest.ensures, last_rests js c.args.i finish rests)
