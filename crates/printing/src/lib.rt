@@ -79,7 +79,7 @@ fn next_number(input: &[u8]) -> Option<(usize, &[u8])>
 }
 
 // The file at the front of the input, after two bytes that say how long it is, and what follows it; none where the input ends before.
-fn next_file(input: &[u8]) -> Option<(&[u8], &[u8])>
+pub fn next_file(input: &[u8]) -> Option<(&[u8], &[u8])>
     ensures { IfSome result (λ p. FileIn 2 input.now p.0.now p.1.now) }
 {
     let (size, rest) = next_number(input)?;
@@ -111,7 +111,7 @@ pub struct Example<'a> {
 }
 
 // The example at the front of the input, two numbers and a file after its length, and what follows it; none where the input ends before.
-fn next_example(input: &[u8]) -> Option<(Example<'_>, &[u8])>
+pub fn next_example(input: &[u8]) -> Option<(Example<'_>, &[u8])>
     ensures { IfSome result (λ p. FileIn 6 input.now p.0.file.now p.1.now) }
 {
     let (first, rest) = next_number(input)?;
