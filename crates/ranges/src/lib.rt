@@ -11,18 +11,26 @@ pub struct FinishRange {
     pub latest: u32,
 }
 
-// Widens the range to the smallest that also contains the finish times from e to f.
+// The smallest range that contains the range and the finish times from e to f.
 #[tactic(auto, unfolding(crate::specs::internal::Ranges::widened_by))]
-pub fn widen(r: &mut FinishRange, e: u32, f: u32)
-    ensures { r.new ≡ widened_by r.old e f }
+pub fn widened(r: FinishRange, e: u32, f: u32) -> FinishRange
+    ensures { result ≡ widened_by r e f }
 {
     if r.latest == 0 {
-        *r = FinishRange {
+        return FinishRange {
             earliest: e,
             latest: f,
         };
-    } else {
-        r.earliest = r.earliest.min(e);
-        r.latest = r.latest.max(f);
     }
+    FinishRange {
+        earliest: r.earliest.min(e),
+        latest: r.latest.max(f),
+    }
+}
+
+// The same in place.
+pub fn widen(r: &mut FinishRange, e: u32, f: u32)
+    ensures { r.new ≡ widened_by r.old e f }
+{
+    *r = widened(*r, e, f);
 }
