@@ -7,7 +7,7 @@ use mathlib.Core.List.{List}
 use native.Mathlib.Omega.{arith}
 use lib.Count.{count_trailing_zeros, under}
 use lib.Dec.{eqb, leb}
-use lib.ListN.{length, set}
+use lib.ListN.{get_or, length, set}
 use lib.Pow.{pow_mono}
 use lib.Seq.{get_or-set_same, get_or-set_other}
 use borrow.Author.Tests.{eq-eqb, leb-true, leb-false}
@@ -22,7 +22,7 @@ use Rattle.states.specs.internal.Slots.{possibly_at, certainly_at, earliest_at, 
 use Rattle.states.proofs.Bits.{in_half}
 use Rattle.states.proofs.Contents.{finish_length, started_at}
 use Rattle.states.proofs.Frames.{same_state, same_set_words, same_range}
-use Rattle.links.specs.internal.Spare.{spare_of, word_of, Kept}
+use Rattle.links.specs.internal.Spare.{spare_of, word_of, head_of, link_of, Kept}
 
 -- ---- the lowest digit that is set in what is left of all
 
@@ -78,6 +78,19 @@ spare_exists m k ws h fits l = ⊎_elim (λ q. absurd (never (leb-true k spare q
           count_all is_range (state_of m k ws).finish empty
               (λ i b. started_at m k ws i (omega (arith, b, finish_length m k ws)) ∙ spare_first (set_of ws) fits₂ i (omega (arith, q, b, finish_length m k ws))),
         )
+
+-- its words, read: i is the spare job
+module _ (m k : ℕ) (ws : List ℕ) (i : ℕ) (spare : i ≡ spare_of (set_of ws)) where
+  -- the one that begins at a place
+  spare_read : (at : ℕ → ℕ → ℕ) → get_or ws (at m k + i) 0 ≡ word_of at m k ws
+  unfolding word_of
+  spare_read at = rw spare refl
+
+  pub head_read : get_or ws (earliest_at m + i) 0 ≡ head_of m k ws
+  head_read = spare_read (λ m k. earliest_at m)
+
+  pub link_read : get_or ws (latest_at m k + i) 0 ≡ link_of m k ws
+  link_read = spare_read latest_at
 
 -- ---- a finish word set, of a job that is not in the set
 
@@ -138,3 +151,13 @@ module _ (m k : ℕ) (ws : List ℕ) (i v : ℕ) (h : k ≤ most_jobs) (long : s
     unfolding word_of
     spare_other at₂ ne =
         rw (spare_kept (at m k) which).set (get_or-set_other ws (at m k + i) (at₂ m k + spare_of (set_of ws)) v 0 (λ z. ne (omega (arith, z, spare))))
+
+    -- the same at a place that is that of the word, however it was reckoned
+    pub kept_at : (p : ℕ) → p ≡ at m k + i → Kept m k ws (set ws p v)
+    kept_at p e = rw e (spare_kept (at m k) which)
+
+    pub written_at : (p : ℕ) → p ≡ at m k + i → at m k + k ≤ state_words m k → word_of at m k (set ws p v) ≡ v
+    written_at p e h₂ = rw e (spare_written h₂)
+
+    pub other_at : (p : ℕ) → p ≡ at m k + i → (at₂ : ℕ → ℕ → ℕ) → (at₂ m k ≡ at m k → ⊥) → word_of at₂ m k (set ws p v) ≡ word_of at₂ m k ws
+    other_at p e = rw e spare_other
