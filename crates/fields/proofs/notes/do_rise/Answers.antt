@@ -35,7 +35,7 @@ pub loop-listed-preserved : goal.loop-listed-preserved
 loop-listed-preserved g c = λ numbers x.
     let v = c.loop-listed in
     let job = read g (goal.at.loop-listed-preserved g c).After-into-job numbers x in
-    ap (λ n. rises c.args.own (n + 1) (drop (v.listed-index + 1) numbers)) job
+    ap (λ n. rises c.args.own n (drop (v.listed-index + 1) numbers)) (omega (arith, job))
     ∙ sym (next_one numbers v.listed-index (omega (arith, x.many)) c.args.own v.low (omega (arith, job)) (omega (arith, job)))
     ∙ v.invariant numbers x
 

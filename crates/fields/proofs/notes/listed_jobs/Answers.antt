@@ -1,9 +1,6 @@
-use mathlib.Core.Path.{◌≡◌, sym, ap, ◌∙◌}
-use Prim.Native.Nat.{◌+◌, ◌-◌}
+use mathlib.Core.Path.{sym, ap, ◌∙◌}
 use native.Mathlib.Omega.{arith}
 use lib.ListN.{take, drop}
-use Rattle.format.specs.Bytes.{number}
-use Rattle.format.specs.Layout.{note_bytes}
 use Rattle.fields.proofs.ListedJobs.{listed_at, sized, listed_is}
 use Rattle.fields.proofs.notes.listed_jobs.Goals as goal
 
@@ -15,5 +12,4 @@ slice_bounds-result-start c = omega (arith, (sized c.args.part.now c.requires).0
 
 pub returns : goal.returns
 returns c = let p = c.args.part.now in
-    let many : c.byte.result + 1 - listed_at ≡ number 1 0 p - note_bytes = omega (arith, c.byte.ensures.0) in
-    ap (λ n. take n (drop listed_at p)) many ∙ sym (listed_is p c.requires)
+    ap (λ n. take n (drop listed_at p)) (omega (arith, sized p c.requires, c.byte.ensures.0)) ∙ sym (listed_is p c.requires)
